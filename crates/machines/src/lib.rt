@@ -1,0 +1,2 @@
+// Words and tables as such: what this crate proves knows nothing of patterns.
+pub mod order;
