@@ -14,9 +14,9 @@ use Rattle.std.specs.declared.option.Option.the-variants.{Some, None}
 use Rattle.patterns.specs.declared.node.Node.{Node}
 use Rattle.patterns.specs.declared.node.Node.the-variants.{Nothing, Empty, Range, Sequence, Union, Intersection, Complement, Star}
 use Rattle.patterns.specs.Patterns.{Pattern, nothing, empty, range, seq, union, inter, compl, star}
-use Rattle.patterns.specs.Lists.{write, write-list, sound, sound-list, Stands}
+use Rattle.patterns.specs.Lists.{write, write-list, sound, sound-list}
 use Rattle.patterns.specs.Nodes.{node-bytes, node-sound, arity}
-use Rattle.patterns.specs.Promises.{NodeRead}
+use Rattle.patterns.specs.Promises.{NodeAt, NodeRead}
 use Rattle.patterns.proofs.Places.{stands-from}
 
 -- the node that bytes begin with
@@ -80,13 +80,15 @@ decode-begins (suc (suc (suc (suc (suc (suc zero))))) ∷ s) = (s, refl, refl)
 decode-begins (suc (suc (suc (suc (suc (suc (suc zero)))))) ∷ s) = (s, refl, refl)
 decode-begins (suc (suc (suc (suc (suc (suc (suc (suc k))))))) ∷ s) = tt
 
-pub stands-decode : {s : List ℕ} {at stop : ℕ} (n : Node) → Stands s at (node-bytes n) stop → node-sound n ≡ true → decode (drop at s) ≡ Some n
-stands-decode {s = s} {stop = stop} n h o = ap decode (h .is) ∙ decode-node n (drop stop s) o
+pub node-decode : {s : List ℕ} {at : ℕ} {n : Node} → NodeAt s at n → decode (drop at s) ≡ Some n
+node-decode {s = s} {at = at} {n = n} h = ap decode (h .stands .is) ∙ decode-node n (drop (at + length (node-bytes n)) s) (h .sounds)
 
 -- the answer of a reader that answers as `decode` does
 pub node-read : (s : List ℕ) (at : ℕ) (r : Option Node) → decode (drop at s) ≡ r → NodeRead s at r
-node-read s at None e = λ n stop h o. let same : _≡_ {A = Option Node} (Some n) None = sym (stands-decode n h o) ∙ e in let z : _≡_ {A = ℕ} 0 1 = cc in omega arith
-node-read s at (Some n) e = let b : Begins (drop at s) (Some n) = subst (Begins (drop at s)) e (decode-begins (drop at s)) in (stands-from s at (node-bytes n) (b .0) (node-long n) (b .1), b .2)
+node-read s at None e = λ n h. let same : _≡_ {A = Option Node} (Some n) None = sym (node-decode h) ∙ e in let z : _≡_ {A = ℕ} 0 1 = cc in omega arith
+node-read s at (Some n) e =
+    let b : Begins (drop at s) (Some n) = subst (Begins (drop at s)) e (decode-begins (drop at s)) in
+    record { stands = stands-from s at (node-bytes n) (b .0) (node-long n) (b .1); sounds = b .2 }
 
 -- at a place within the list the byte there decides
 pub node-read-at : (s : List ℕ) (at k : ℕ) (r : Option Node) → at < length s → getD s at 0 ≡ k → decode-kind k (drop (at + 1) s) ≡ r → NodeRead s at r

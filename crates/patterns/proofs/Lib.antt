@@ -1,2 +1,4 @@
 pub mod Places
 pub mod Decoding
+pub mod Trees
+pub mod Extents

@@ -19,9 +19,12 @@ use Rattle.patterns.specs.Nodes.{node-bytes, node-sound}
 use Rattle.patterns.specs.Searching.{ends-along}
 
 -- reading one node: the one that stands at the place, or there is none
+pub record NodeAt (s : List ℕ) (at : ℕ) (n : Node) : Type 0 where
+  pub stands : Stands s at (node-bytes n) (at + length (node-bytes n))
+  pub sounds : node-sound n ≡ true
 abbrev pub NodeRead : List ℕ → ℕ → Option Node → Type 0
-NodeRead s at (Some n) = Stands s at (node-bytes n) (at + length (node-bytes n)) × (node-sound n ≡ true)
-NodeRead s at None = (n : Node) (stop : ℕ) → Stands s at (node-bytes n) stop → node-sound n ≡ true → ⊥
+NodeRead s at (Some n) = NodeAt s at n
+NodeRead s at None = (n : Node) → NodeAt s at n → ⊥
 
 -- reading one pattern: where the one that begins at the place ends, or there is none
 pub record PatternAt (s : List ℕ) (at : ℕ) (p : Pattern) (stop : ℕ) : Type 0 where
