@@ -2,3 +2,5 @@ pub mod Places
 pub mod Decoding
 pub mod Trees
 pub mod Extents
+pub mod Cutting
+pub mod Matching

@@ -12,7 +12,7 @@ use Rattle.machines.specs.Classes.{nth}
 use Rattle.patterns.specs.declared.node.Node.{Node}
 use Rattle.patterns.specs.declared.direct.Searched.{Searched}
 use Rattle.patterns.specs.declared.direct.Searched.the-variants.{Read, NoList, Full}
-use Rattle.patterns.specs.Patterns.{Pattern, matches}
+use Rattle.patterns.specs.Patterns.{Pattern, seq, star, matches}
 use Rattle.patterns.specs.Meanings.{Meaning}
 use Rattle.patterns.specs.Lists.{write, sound, List-of, One-list, Stands}
 use Rattle.patterns.specs.Nodes.{node-bytes, node-sound}
@@ -38,6 +38,15 @@ pub record Some-pattern (s : List ℕ) (at : ℕ) : Type 0 where
   pub pattern : Pattern
   pub stop : ℕ
   pub here : PatternAt s at pattern stop
+
+-- deciding by definition whether what stands there matches a word: itself, with what stands further on behind it, or
+-- repeated
+abbrev pub MatchesAt : List ℕ → ℕ → Word → Bool → Type 0
+MatchesAt s at w r = (p : Pattern) (stop : ℕ) → PatternAt s at p stop → r ≡ matches p w
+abbrev pub SequenceMatches : List ℕ → ℕ → ℕ → Word → Bool → Type 0
+SequenceMatches s first second w r = (p q : Pattern) (stop end : ℕ) → PatternAt s first p stop → PatternAt s second q end → r ≡ matches (seq p q) w
+abbrev pub StarMatches : List ℕ → ℕ → Word → Bool → Type 0
+StarMatches s at w r = (p : Pattern) (stop : ℕ) → PatternAt s at p stop → r ≡ matches (star p) w
 
 -- reading a list: the bytes are the list of so many patterns, and of no others; or they are no list
 abbrev pub Listed : List ℕ → Option ℕ → Type 0
