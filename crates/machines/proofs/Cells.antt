@@ -2,9 +2,10 @@
 use mathlib.Core.Path.{_≡_, refl, sym, ap, _∙_}
 use mathlib.Core.List.{List, [], _∷_}
 use mathlib.Core.Option.{some}
-use Prim.Native.Nat.{ℕ, zero, suc, _+_, _*_, _<_}
+use Prim.Native.Nat.{ℕ, zero, suc, _+_, _-_, _*_, _<_}
 use native.Mathlib.Omega.{arith}
-use lib.ListN.{length, getD}
+use lib.ListN.{length, getD, take, drop}
+use Rattle.std.proofs.shelf.Lists.{places}
 use Rattle.machines.specs.Classes.{nth}
 use Rattle.machines.specs.Tables.{Sound-table, Leads-inside, or0}
 
@@ -17,6 +18,10 @@ pub nth-getD : (t : List ℕ) (p : ℕ) → p < length t → nth t p ≡ some (g
 nth-getD [] p h = absurd (omega arith)
 nth-getD (x ∷ xs) zero h = refl
 nth-getD (x ∷ xs) (suc n) h = nth-getD xs n (omega arith)
+
+-- a cell of a row that is read as a part of the table
+pub row-cell : (t : List ℕ) (from p : ℕ) → p < 257 → getD (take ((from + 257) - from) (drop from t)) p 0 ≡ getD t (from + p) 0
+row-cell t from p h = grind (arith, places)
 
 pub inside-sound : (k : ℕ) (t : List ℕ) → length t ≡ 257 * k → Leads-inside k t → Sound-table k t
 inside-sound k t e f = record {
