@@ -1,4 +1,5 @@
 pub mod Shortlex
+pub mod Codes
 pub mod Cells
 pub mod Pieces
 pub mod Feeding

@@ -4,3 +4,6 @@ pub mod Classes
 pub mod Machines
 pub mod Tables
 pub mod Pieces
+pub mod Columns
+pub mod Minimal
+pub mod Systems

@@ -32,8 +32,10 @@ fn matches_at(list: &[u8], at: usize, word: &[u8]) -> bool
         Node::Complement => !matches_at(list, first, word),
         Node::Star => star_matches(list, first, word),
         Node::Sequence => sequence_matches(list, first, pattern_behind(list, first), word),
-        Node::Union => matches_at(list, first, word) || matches_at(list, pattern_behind(list, first), word),
-        Node::Intersection => matches_at(list, first, word) && matches_at(list, pattern_behind(list, first), word),
+        Node::Union => matches_at(list, first, word)
+            || matches_at(list, pattern_behind(list, first), word),
+        Node::Intersection => matches_at(list, first, word)
+            && matches_at(list, pattern_behind(list, first), word),
     }
 }
 
