@@ -19,10 +19,6 @@ pub run-push : (next : ℕ → ℕ → ℕ) (i : ℕ) (w : Word) (b : ℕ) → r
 run-push next i [] b = refl
 run-push next i (x ∷ w) b = run-push next (next i x) w b
 
-pub run-append : (next : ℕ → ℕ → ℕ) (i : ℕ) (u v : Word) → run next i (u ++ v) ≡ run next (run next i u) v
-run-append next i [] v = refl
-run-append next i (x ∷ u) v = run-append next (next i x) u v
-
 pub bytes-append : (u v : Word) → Bytes u → Bytes v → Bytes (u ++ v)
 bytes-append [] v a b = b
 bytes-append (x ∷ u) v (l, a) b = (l, bytes-append u v a b)
