@@ -3,3 +3,4 @@ pub mod Codes
 pub mod Cells
 pub mod Pieces
 pub mod Feeding
+pub mod Rounds
