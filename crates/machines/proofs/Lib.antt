@@ -4,3 +4,4 @@ pub mod Cells
 pub mod Pieces
 pub mod Feeding
 pub mod Rounds
+pub mod Quotients

@@ -54,10 +54,13 @@ module _ (c k : ℕ) (t : List ℕ) (S : Inside c k t) (B D : ℕ → ℕ) (P : 
   other-told column least C i j l m (inl e) = P .told column least C i j l m e
   other-told column least C i j l m (inr (inl e)) = ([], tt, e)
   other-told column least C i j l m (inr (inr (a, h, e))) =
-      let w = P .told column least C (cell t i a) (cell t j a) (S .cells i l a h) (S .cells j m a h) e in
-      (least a ∷ w .0, (C .byte a h, w .1), λ q. w .2 (
-        ap (λ z. shown t (run (leads column t) (cell t i z) (w .0))) (sym (C .back a h)) ∙ q
-        ∙ ap (λ z. shown t (run (leads column t) (cell t j z) (w .0))) (C .back a h)))
+      let w = P .told column least C (cell t i a) (cell t j a) (S .cells i l a h) (S .cells j m a h) e in (
+        least a ∷ w .0,
+        (C .byte a h, w .1),
+        λ q. w .2 (
+            ap (λ z. shown t (run (leads column t) (cell t i z) (w .0))) (sym (C .back a h)) ∙ q
+            ∙ ap (λ z. shown t (run (leads column t) (cell t j z) (w .0))) (C .back a h)),
+      )
 
   other-like : (i j l : ℕ) → Same c t B i l → Other c t B i j → Other c t B l j
   other-like i j l s (inl e) = inl (λ h. e (s .old ∙ h))
@@ -72,6 +75,7 @@ module _ (c k : ℕ) (t : List ℕ) (S : Inside c k t) (B D : ℕ → ℕ) (P : 
     where
       back : (column : ℕ → ℕ) (i j : ℕ) → Told (leads column t) (shown t) i j → Told (leads column t) (shown t) j i
       back column i j (x, ok, e) = (x, ok, λ h. e (sym h))
+
       cases : (column least : ℕ → ℕ) → Columns c column least → (i j : ℕ) → i < k → j < k → (D i ≡ D j → ⊥) → (D i ≡ D j) ⊎ ((D i < D j) ⊎ (D j < D i)) → Told (leads column t) (shown t) i j
       cases column least C i j l m e (inl d) = absurd (e d)
       cases column least C i j l m e (inr (inl s)) =
@@ -90,7 +94,7 @@ module _ (c k : ℕ) (t : List ℕ) (S : Inside c k t) (B : ℕ → ℕ) (P : Bl
   like column least C i j l m e (b ∷ x) ok =
       let h = C .within b (ok .0) in
       like column least C (cell t i (column b)) (cell t j (column b)) (S .cells i l (column b) h) (S .cells j m (column b) h)
-        (sym (Q i l .same .on (column b) h) ∙ ap (λ z. B (cell t z (column b))) e ∙ Q j m .same .on (column b) h) x (ok .1)
+      (sym (Q i l .same .on (column b) h) ∙ ap (λ z. B (cell t z (column b))) e ∙ Q j m .same .on (column b) h) x (ok .1)
 
   pub refined : Refined c k t B
   refined = record {
@@ -98,8 +102,8 @@ module _ (c k : ℕ) (t : List ℕ) (S : Inside c k t) (B : ℕ → ℕ) (P : Bl
     again = λ i l. Q i l .same .old;
     like = like;
     same = λ column least C i j l m s. ⊎-elim (λ (e : B i ≡ B j). e)
-      (λ (n : B i ≡ B j → ⊥). let w = P .told column least C i j l m n in absurd (w .2 (s (w .0) (w .1))))
-      (cases-eq (B i) (B j));
+        (λ (n : B i ≡ B j → ⊥). let w = P .told column least C i j l m n in absurd (w .2 (s (w .0) (w .1))))
+        (cases-eq (B i) (B j));
     told = P .told;
   }
 

@@ -9,3 +9,4 @@ pub mod Minimal
 pub mod Systems
 pub mod Inside
 pub mod Refining
+pub mod Joining

@@ -1,5 +1,6 @@
 // Words and tables as such: what this crate proves knows nothing of patterns.
 pub mod order;
+pub mod quotient;
 pub mod refine;
 pub mod stream;
 pub mod system;

@@ -20,9 +20,9 @@ rounds-less c =
     let more = blocks-more _ _ _ (c .pre .table) _ _ (c .rounds .inv) finer in
     let small = sum-small (c .args .rows) (c .loop-i .fresh) (omega arith) (more .low) in
     let grows : sum (c .rounds .block) < sum (c .loop-i .fresh) = ⊎-elim
-      (λ (e : c .rounds .block ≡ c .loop-i .fresh). let t = c .if-same .ensures tt .1 e in let z : _≡_ {A = ℕ} 0 1 = cc in absurd (omega arith))
-      (λ (h : sum (c .rounds .block) < sum (c .loop-i .fresh)). h)
-      (sum-grows (c .rounds .block) (c .loop-i .fresh) (omega arith) (λ i l. blocks-grow _ _ _ (c .pre .table) _ _ (c .rounds .inv) finer i (omega arith))) in
+    (λ (e : c .rounds .block ≡ c .loop-i .fresh). let t = c .if-same .ensures tt .1 e in let z : _≡_ {A = ℕ} 0 1 = cc in absurd (omega arith))
+    (λ (h : sum (c .rounds .block) < sum (c .loop-i .fresh)). h)
+    (sum-grows (c .rounds .block) (c .loop-i .fresh) (omega arith) (λ i l. blocks-grow _ _ _ (c .pre .table) _ _ (c .rounds .inv) finer i (omega arith))) in
     omega (arith, ap sum (c .copy-from-slice .ensures .after))
 
 pub rounds-again : need.rounds-again
