@@ -5,3 +5,4 @@ pub mod Pieces
 pub mod Feeding
 pub mod Rounds
 pub mod Quotients
+pub mod Living

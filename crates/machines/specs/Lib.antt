@@ -10,3 +10,4 @@ pub mod Systems
 pub mod Inside
 pub mod Refining
 pub mod Joining
+pub mod Live
