@@ -6,3 +6,5 @@ pub mod Feeding
 pub mod Rounds
 pub mod Quotients
 pub mod Living
+pub mod Moves
+pub mod SetBits

@@ -11,3 +11,4 @@ pub mod Inside
 pub mod Refining
 pub mod Joining
 pub mod Live
+pub mod Sets

@@ -1,5 +1,7 @@
 // Words and tables as such: what this crate proves knows nothing of patterns.
+pub mod bits;
 pub mod dead;
+pub mod follow;
 pub mod order;
 pub mod quotient;
 pub mod refine;
