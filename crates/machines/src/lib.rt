@@ -1,10 +1,11 @@
 // Words and tables as such: what this crate proves knows nothing of patterns.
-pub mod bits;
+mod bits;
 pub mod dead;
 pub mod follow;
 pub mod order;
 pub mod quotient;
 pub mod refine;
+pub mod repeat;
 pub mod stream;
 pub mod system;
 pub mod table;
