@@ -5,6 +5,7 @@ pub mod Pieces
 pub mod Feeding
 pub mod Rounds
 pub mod Quotients
-pub mod Living
+pub mod Dead
+pub mod DeadRows
 pub mod Moves
 pub mod SetBits

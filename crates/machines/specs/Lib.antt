@@ -10,5 +10,6 @@ pub mod Systems
 pub mod Inside
 pub mod Refining
 pub mod Joining
-pub mod Live
+pub mod Dead
+pub mod DeadRows
 pub mod Sets

@@ -1,6 +1,6 @@
 // Words and tables as such: what this crate proves knows nothing of patterns.
 mod bits;
-pub mod dead;
+pub mod dead_row;
 pub mod follow;
 pub mod order;
 pub mod quotient;

@@ -2,7 +2,7 @@
 ghost use mathlib.Core.Path.{_≡_};
 ghost use Prim.Native.Nat.{ℕ, _<_};
 ghost use Rattle.machines.specs.Inside.{Inside};
-ghost use Rattle.machines.specs.Live.{Dead-says, Dead-row};
+ghost use Rattle.machines.specs.DeadRows.{Dead-says, Dead-row};
 
 // Whether a row shows 0 and leads nowhere else.
 fn is_dead(table: &[u32], columns: usize, rows: usize, row: usize) -> bool

@@ -1,9 +1,8 @@
--- Rows from which something can still be accepted, and the one from which nothing can. Assumes nothing.
+-- The row of a table from which nothing is shown any more, by columns. Assumes nothing.
 --   Is-dead c t r       row r shows 0, and each of c columns leads back to it
 --   Dead-says c t r b   b says whether it is one
---   Live next output r  of a machine: a word after which a row is reached from r that shows something else than 0
---   Dead-row c k t d    d is the least dead one of k rows, or k if there is none; nothing is accepted from it; and if the
---                       table is a least one, d alone is dead, and from each other row something is accepted
+--   Dead-row c k t d    d is the least dead one of k rows, or k if there is none; nothing is shown from it on; and if the
+--                       machine is minimal, d alone is dead, and from each other row on something is shown
 use mathlib.Core.Path.{_≡_}
 use mathlib.Core.Bool.{Bool, true, false}
 use mathlib.Core.List.{List}
@@ -12,6 +11,7 @@ use Rattle.machines.specs.Words.{Word, Bytes}
 use Rattle.machines.specs.Machines.{run}
 use Rattle.machines.specs.Columns.{Columns, cell, shown, leads}
 use Rattle.machines.specs.Minimal.{Minimal}
+use Rattle.machines.specs.Dead.{Live}
 
 pub record Is-dead (c : ℕ) (t : List ℕ) (r : ℕ) : Type 0 where
   pub shows : shown t r ≡ 0
@@ -20,9 +20,6 @@ pub record Is-dead (c : ℕ) (t : List ℕ) (r : ℕ) : Type 0 where
 abbrev pub Dead-says : ℕ → List ℕ → ℕ → Bool → Type 0
 Dead-says c t r true = Is-dead c t r
 Dead-says c t r false = Is-dead c t r → ⊥
-
-abbrev pub Live : (ℕ → ℕ → ℕ) → (ℕ → ℕ) → ℕ → Type 0
-Live next output r = (x : Word) × Bytes x × (output (run next r x) ≡ 0 → ⊥)
 
 pub record Dead-row (c k : ℕ) (t : List ℕ) (d : ℕ) : Type 0 where
   pub few : d ≤ k

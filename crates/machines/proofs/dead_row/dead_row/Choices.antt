@@ -1,6 +1,6 @@
 use Prim.Native.Nat.{ℕ, _<_}
-use Rattle.machines.specs.Live.{Is-dead}
-use Rattle.machines.proofs.dead.dead_row.Given as given
+use Rattle.machines.specs.DeadRows.{Is-dead}
+use Rattle.machines.proofs.dead_row.dead_row.Given as given
 
 -- no row below is dead
 abbrev pub Inv-loop-row : given.InvT-loop-row
