@@ -2,6 +2,7 @@
 mod bits;
 pub mod dead_row;
 pub mod follow;
+pub mod inside;
 pub mod order;
 pub mod quotient;
 pub mod refine;
