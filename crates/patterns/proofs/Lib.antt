@@ -4,3 +4,4 @@ pub mod Trees
 pub mod Extents
 pub mod Cutting
 pub mod Matching
+pub mod Ending

@@ -13,6 +13,7 @@ use Rattle.patterns.specs.Patterns.{Pattern, seq, star, matches}
 abbrev pub joined : List Word → Word
 joined [] = []
 joined (w ∷ ws) = w ++ joined ws
+
 abbrev pub All : (Word → Type 0) → List Word → Type 0
 All P [] = Unit {0}
 All P (w ∷ ws) = P w × All P ws
