@@ -1,6 +1,8 @@
 // Searches a text for the patterns of a list and prints for each the places after which it ends.
 mod printing;
 
+use notation::error::ErrorDisplay as _;
+use notation::scan::Span;
 use patterns::direct::Searched;
 use patterns::direct::matches;
 use patterns::direct::search;
@@ -8,6 +10,7 @@ use printing::divider;
 use printing::places;
 use std::env;
 use std::error::AnyError;
+use std::fmt::Write;
 use std::fs;
 use std::io::Read;
 
@@ -37,17 +40,52 @@ fn run(rt: &LibcRuntime) -> Result<(), AnyError> {
 // Reads the list, searches the text by definition and prints a line for each pattern.
 fn print_places(rt: &LibcRuntime, list: &[u8], text: &[u8]) -> Result<(), AnyError> {
     let heap = rt.alloc();
-    let notation = notation::read(heap, list)?;
+    let notation = match notation::read(heap, list) {
+        Ok(notation) => notation,
+        Err(error) => {
+            let message = format!(heap, "the list, {error}")?;
+            return Err(message.into());
+        }
+    };
     let bytes = notation.bytes.as_slice();
-    let mut bits = vec![in heap; 0u32; text.len().saturating_add(1)]?;
-    bits[0] = bits_before(bytes);
-    let Searched::Read = search(bytes, text, &mut bits[1..]) else {
+    let mut ends = vec![in heap; 0u32; text.len()]?;
+    let Searched::Read = search(bytes, text, ends.as_mut_slice()) else {
         return Err("the list cannot be searched".into());
     };
-    let mut index = 0u32;
-    for name in notation.names.iter() {
-        print_line(rt, &list[name.start..name.end], bits.as_slice(), index)?;
-        index = index.saturating_add(1);
+    for (index, name) in notation.names.iter().enumerate() {
+        print_line(rt, list, *name, bytes, index, ends.as_slice())?;
     }
     Ok(())
+}
+
+// The name, and behind a colon each place after which the pattern ends; place 0 is before the first byte.
+fn print_line(
+    rt: &LibcRuntime,
+    list: &[u8],
+    name: Span,
+    bytes: &[u8],
+    index: usize,
+    ends: &[u32],
+) -> Result<(), AnyError> {
+    let mut line = String::from_utf8_lossy(rt.alloc(), name_of(list, name))?;
+    line.push(':')?;
+    if let Some(true) = matches(bytes, index, b"") {
+        line.push_str(" 0")?;
+    }
+    for place in places(rt.alloc(), ends, index)?.iter() {
+        write!(line, " {place}")?;
+    }
+    rt.println(line.as_str())?;
+    Ok(())
+}
+
+// The bytes of a name; none where the span lies outside.
+fn name_of(list: &[u8], name: Span) -> &[u8] {
+    let start = name.start;
+    let end = name.end;
+    if start <= end && end <= list.len() {
+        &list[start..end]
+    } else {
+        &list[0..0]
+    }
 }

@@ -5,22 +5,27 @@ ghost use lib.ListN.{length};
 ghost use Rattle.std.specs.Of.Vec.{vec-items};
 ghost use Rattle.std.specs.Orderings.{When};
 ghost use Rattle.std.specs.Vec.{made};
-ghost use Rattle.search.specs.Printing.{places as placesOf, Rule, RuleFound};
+ghost use Rattle.search.specs.Printing.{set-in, places as placesOf, Rule, RuleFound};
 use std::alloc::AllocError;
 use std::alloc::Global;
 
-// The places at which a pattern's bit is set.
-pub fn places(heap: Global, bits: &[u32], index: u32) -> Result<Vec<usize>, AllocError>
-    requires { ⌜ index < 32 ⌝ }
-    ensures { λ r. ⌜ made r (λ v. vec-items v ≡ placesOf index 0 (now (bits .entry))) ⌝ }
+// The places, counted from 1, at which a pattern's bit is set; a number above 31 has none.
+pub fn places(heap: Global, ends: &[u32], index: usize) -> Result<Vec<usize>, AllocError>
+    ensures { λ r. ⌜ made r (λ v. vec-items v ≡ placesOf index 1 (now (ends .entry))) ⌝ }
 {
     let mut found = Vec::new(heap);
-    for (place, b) in bits.iter().enumerate() {
-        if (*b >> index) % 2 == 1 {
-            found.push(place)?;
+    for (i, bits) in ends.iter().enumerate() {
+        if is_set(*bits, index) {
+            found.push(i + 1)?;
         }
     }
     Ok(found)
+}
+
+fn is_set(bits: u32, index: usize) -> bool
+    ensures { λ r. ⌜ r ≡ set-in bits index ⌝ }
+{
+    index < 32 && (bits >> index) % 2 == 1
 }
 
 // Where the line that divides a list from a text begins, if there is one.

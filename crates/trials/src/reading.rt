@@ -21,13 +21,17 @@ fn lists_are_counted() -> Result<(), Fail> {
     check_eq(read_list(b"\x02aa"), Some(1)).note("a range of one byte")?;
     check_eq(read_list(b"\x03\x01\x00"), Some(1)).note("a sequence")?;
     check_eq(read_list(b"\x04\x01\x05\x00\x01"), Some(1)).note("or, with an and in it")?;
-    check_eq(read_list(b"\x05\x06\x01\x07\x02\x30\x39\x00"), Some(2)).note("not empty and digits, then nothing")
+    check_eq(read_list(b"\x05\x06\x01\x07\x02\x30\x39\x00"), Some(2)).note(
+        "not empty and digits, then nothing",
+    )
 }
 
 #[test]
 fn what_is_no_list_is_refused() -> Result<(), Fail> {
     check_eq(read_list(b"\x08"), None).note("an unknown number")?;
-    check_eq(read_list(b"\x05\x06\x01\x07\x02\x39\x30\x00"), None).note("a range that ends before it begins")?;
+    check_eq(read_list(b"\x05\x06\x01\x07\x02\x39\x30\x00"), None).note(
+        "a range that ends before it begins",
+    )?;
     check_eq(read_list(b"\x02\x30"), None).note("a range that is cut off")?;
     check_eq(read_list(b"\x03\x01"), None).note("a sequence that is cut off")?;
     check_eq(read_list(b"\x06"), None).note("a not of nothing at all")?;

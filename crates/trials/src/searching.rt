@@ -5,7 +5,8 @@ use patterns::direct::search;
 use std::test::*;
 
 // Words of a and b with an a, and without bb.
-const TIDY: &[u8] = b"\x05\x03\x07\x04\x02aa\x02bb\x03\x02aa\x07\x04\x02aa\x02bb\x06\x03\x07\x04\x02aa\x02bb\x03\x02bb\x03\x02bb\x07\x04\x02aa\x02bb";
+const TIDY: &[u8] =
+    b"\x05\x03\x07\x04\x02aa\x02bb\x03\x02aa\x07\x04\x02aa\x02bb\x06\x03\x07\x04\x02aa\x02bb\x03\x02bb\x03\x02bb\x07\x04\x02aa\x02bb";
 
 // ab; b's, one at least; bb.
 const THREE: &[u8] = b"\x03\x02aa\x02bb\x03\x02bb\x07\x02bb\x03\x02bb\x02bb";
@@ -28,7 +29,9 @@ fn what_went_wrong_before() -> Result<(), Fail> {
     check_eq(matches(b"\x07\x06\x01", 0, b"ab"), Some(true)).note("many of not empty")?;
     check_eq(matches(b"\x07\x07\x02aa", 0, b"aaa"), Some(true)).note("many of many")?;
     check_eq(matches(b"\x02\x80\xff", 0, b"\xff"), Some(true)).note("a range that ends at 255")?;
-    check_eq(matches(b"\x05\x02aa\x03\x02aa\x02aa", 0, b"a"), Some(false)).note("and, of the same word")
+    check_eq(matches(b"\x05\x02aa\x03\x02aa\x02aa", 0, b"a"), Some(false)).note(
+        "and, of the same word",
+    )
 }
 
 #[test]
