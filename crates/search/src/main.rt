@@ -15,7 +15,13 @@ use std::fs;
 use std::io::Read;
 
 fn main(rt: LibcRuntime) -> Result<(), AnyError> {
-    rt.report(run(&rt))
+    match run(&rt) {
+        Ok(()) => Ok(()),
+        Err(error) => {
+            eprintln!(rt, "search: {error}")?;
+            Err(error)
+        }
+    }
 }
 
 // The list is a file that the first argument names, and the text is the standard input. With no argument both are the standard
@@ -27,23 +33,34 @@ fn run(rt: &LibcRuntime) -> Result<(), AnyError> {
     let _program = args.next();
     let input = input.as_slice();
     if let Some(path) = args.next() {
-        let list = fs::read(rt, path.as_str())?;
-        return print_places(rt, list.as_slice(), input);
+        let list = read_file(rt, path.as_str())?;
+        return print_places(rt, path.as_str(), list.as_slice(), input);
     }
     let Some(at) = divider(input) else {
         return Err("no list: name a file, or write the list, a line '---' and the text".into());
     };
     let text = input.len().min(at + 4);
-    print_places(rt, &input[0..at], &input[text..])
+    print_places(rt, "standard input", &input[0..at], &input[text..])
+}
+
+// The bytes of a file; a refusal names it.
+fn read_file(rt: &LibcRuntime, path: &str) -> Result<Vec<u8>, AnyError> {
+    match fs::read(rt, path) {
+        Ok(bytes) => Ok(bytes),
+        Err(error) => {
+            let message = format!(rt.alloc(), "{path}: {error}")?;
+            Err(message.into())
+        }
+    }
 }
 
 // Reads the list, searches the text by definition and prints a line for each pattern.
-fn print_places(rt: &LibcRuntime, list: &[u8], text: &[u8]) -> Result<(), AnyError> {
+fn print_places(rt: &LibcRuntime, source: &str, list: &[u8], text: &[u8]) -> Result<(), AnyError> {
     let heap = rt.alloc();
     let notation = match notation::read(heap, list) {
         Ok(notation) => notation,
         Err(error) => {
-            let message = format!(heap, "the list, {error}")?;
+            let message = format!(heap, "{source}: {error}")?;
             return Err(message.into());
         }
     };
