@@ -14,6 +14,7 @@ abbrev pub Lex : Word → Word → Type 0
 Lex [] v = ⊥
 Lex (x ∷ u) [] = ⊥
 Lex (x ∷ u) (y ∷ v) = (x < y) ⊎ ((x ≡ y) × Lex u v)
+
 abbrev pub Before : Word → Word → Type 0
 Before u v = (length u < length v) ⊎ ((length u ≡ length v) × Lex u v)
 
@@ -27,6 +28,7 @@ lex-less [] v e b = absurd b
 lex-less (x ∷ u) [] e b = absurd b
 lex-less (x ∷ u) (y ∷ v) e (inl l) = at-once l (omega arith)
 lex-less (x ∷ u) (y ∷ v) e (inr (s, b)) = rw s (later (lex-less u v (omega arith) b) (omega arith))
+
 pub before-less : (u v : Word) → Before u v → Less u v
 before-less u v (inl s) = shorter s
 before-less u v (inr (e, b)) = lex-less u v e b
@@ -35,6 +37,7 @@ lex-irreflexive : (u : Word) → Lex u u → ⊥
 lex-irreflexive [] b = b
 lex-irreflexive (x ∷ u) (inl l) = omega arith
 lex-irreflexive (x ∷ u) (inr (e, b)) = lex-irreflexive u b
+
 pub less-irreflexive : (u : Word) → Less u u → ⊥
 less-irreflexive u l = ⊎-elim (λ s. omega arith) (λ b. lex-irreflexive u (b .1)) (less-before l)
 
@@ -46,6 +49,7 @@ lex-transitive (x ∷ u) (y ∷ v) (z ∷ w) (inl a) (inl b) = inl (omega arith)
 lex-transitive (x ∷ u) (y ∷ v) (z ∷ w) (inl a) (inr (e, b)) = inl (omega arith)
 lex-transitive (x ∷ u) (y ∷ v) (z ∷ w) (inr (e, a)) (inl b) = inl (omega arith)
 lex-transitive (x ∷ u) (y ∷ v) (z ∷ w) (inr (e, a)) (inr (d, b)) = inr (e ∙ d, lex-transitive u v w a b)
+
 pub less-transitive : (u v w : Word) → Less u v → Less v w → Less u w
 less-transitive u v w a b = before-less u w (go (less-before a) (less-before b))
   where
@@ -67,6 +71,7 @@ lex-total (x ∷ u) (y ∷ v) e = go (cases-order x y) (lex-total u v (omega ari
     go (inl s) (inr (inr b)) = inr (inr (inr (sym s, b)))
     go (inr (inl l)) r = inl (inl l)
     go (inr (inr l)) r = inr (inr (inl l))
+
 pub less-total : (u v : Word) → Less u v ⊎ ((u ≡ v) ⊎ Less v u)
 less-total u v = go (cases-order (length u) (length v))
   where
@@ -92,21 +97,26 @@ level-none u v e = record { long = e; within = omega arith; same = λ s. s; belo
 -- what is left of a word at a place within it
 left-at : (u : Word) (i : ℕ) → i < length u → drop i u ≡ getD u i 0 ∷ drop (i + 1) u
 left-at u i h = drop-more u i 0 h
+
 left-long : (u v : Word) (i : ℕ) → length u ≡ length v → length (drop i u) ≡ length (drop i v)
 left-long u v i e = simp length-drop (omega arith)
 
 module _ {u v : Word} {i : ℕ} (level : Level u v i) (h : i < length u) where
   there : i < length v
   there = omega (arith, level .long)
+
   pub level-more : getD u i 0 ≡ getD v i 0 → Level u v (i + 1)
   level-more e = record {
-      long = level .long;
-      within = omega arith;
-      same = λ s. level .same (left-at u i h ∙ ap (λ x. x ∷ drop (i + 1) u) e ∙ ap (λ t. getD v i 0 ∷ t) s ∙ sym (left-at v i there));
-      below = λ l. level .below (rw (left-at u i h, left-at v i there, e) (later l (left-long u v (i + 1) (level .long))));
-      above = λ l. level .above (rw (left-at u i h, left-at v i there, e) (later l (left-long v u (i + 1) (sym (level .long))))) }
+    long = level .long;
+    within = omega arith;
+    same = λ s. level .same (left-at u i h ∙ ap (λ x. x ∷ drop (i + 1) u) e ∙ ap (λ t. getD v i 0 ∷ t) s ∙ sym (left-at v i there));
+    below = λ l. level .below (rw (left-at u i h, left-at v i there, e) (later l (left-long u v (i + 1) (level .long))));
+    above = λ l. level .above (rw (left-at u i h, left-at v i there, e) (later l (left-long v u (i + 1) (sym (level .long)))));
+  }
+
   pub level-below : getD u i 0 < getD v i 0 → Less u v
   level-below l = level .below (rw (left-at u i h, left-at v i there) (at-once l (left-long u v (i + 1) (level .long))))
+
   pub level-above : getD v i 0 < getD u i 0 → Less v u
   level-above l = level .above (rw (left-at u i h, left-at v i there) (at-once l (left-long v u (i + 1) (sym (level .long)))))
 

@@ -24,6 +24,7 @@ abbrev pub decode-range : List ℕ → Option Node
 decode-range [] = None
 decode-range (a ∷ []) = None
 decode-range (a ∷ b ∷ s) = cond (ltb b 256 && leb a b) (Some (Range a b)) None
+
 abbrev pub decode-kind : ℕ → List ℕ → Option Node
 decode-kind zero s = Some Nothing
 decode-kind (suc zero) s = Some Empty
@@ -34,6 +35,7 @@ decode-kind (suc (suc (suc (suc (suc zero))))) s = Some Intersection
 decode-kind (suc (suc (suc (suc (suc (suc zero)))))) s = Some Complement
 decode-kind (suc (suc (suc (suc (suc (suc (suc zero))))))) s = Some Star
 decode-kind (suc (suc (suc (suc (suc (suc (suc (suc k)))))))) s = None
+
 abbrev pub decode : List ℕ → Option Node
 decode [] = None
 decode (k ∷ s) = decode-kind k s
@@ -63,9 +65,11 @@ decode-node Star x h = refl
 abbrev pub Begins : List ℕ → Option Node → Type 0
 Begins s None = Unit {0}
 Begins s (Some n) = (x : List ℕ) × (s ≡ node-bytes n ++ x) × (node-sound n ≡ true)
+
 begins-range : (a b : ℕ) (s : List ℕ) (t : Bool) → (ltb b 256 && leb a b) ≡ t → Begins (2 ∷ a ∷ b ∷ s) (cond t (Some (Range a b)) None)
 begins-range a b s true h = (s, refl, h)
 begins-range a b s false h = tt
+
 pub decode-begins : (s : List ℕ) → Begins s (decode s)
 decode-begins [] = tt
 decode-begins (zero ∷ s) = (s, refl, refl)
@@ -93,6 +97,7 @@ node-read s at (Some n) e =
 -- at a place within the list the byte there decides
 pub node-read-at : (s : List ℕ) (at k : ℕ) (r : Option Node) → at < length s → getD s at 0 ≡ k → decode-kind k (drop (at + 1) s) ≡ r → NodeRead s at r
 node-read-at s at k r h e d = node-read s at r (ap decode (drop-more s at 0 h) ∙ ap (λ b. decode-kind b (drop (at + 1) s)) e ∙ d)
+
 pub node-read-past : (s : List ℕ) (at : ℕ) → length s ≤ at → NodeRead s at None
 node-read-past s at h = node-read s at None (ap decode (drop-all at s h))
 
@@ -101,8 +106,9 @@ range-short : (s : List ℕ) → length s < 2 → decode-range s ≡ None
 range-short [] h = refl
 range-short (a ∷ []) h = refl
 range-short (a ∷ b ∷ s) h = absurd (omega arith)
+
 range-at : (s : List ℕ) (at : ℕ) → at + 2 < length s
-  → decode-range (drop (at + 1) s) ≡ cond (ltb (getD s (at + 2) 0) 256 && leb (getD s (at + 1) 0) (getD s (at + 2) 0)) (Some (Range (getD s (at + 1) 0) (getD s (at + 2) 0))) None
+    → decode-range (drop (at + 1) s) ≡ cond (ltb (getD s (at + 2) 0) 256 && leb (getD s (at + 1) 0) (getD s (at + 2) 0)) (Some (Range (getD s (at + 1) 0) (getD s (at + 2) 0))) None
 range-at s at h =
     let one : at + 1 < length s = omega arith in
     let two : at + 1 + 1 < length s = omega arith in
@@ -110,14 +116,17 @@ range-at s at h =
     ap decode-range (drop-more s (at + 1) 0 one)
     ∙ ap (λ r. decode-range (getD s (at + 1) 0 ∷ r)) (drop-more s (at + 1 + 1) 0 two)
     ∙ ap (λ i. cond (ltb (getD s i 0) 256 && leb (getD s (at + 1) 0) (getD s i 0)) (Some (Range (getD s (at + 1) 0) (getD s i 0))) None) on
+
 module _ (s : List ℕ) (at : ℕ) (there : at < length s) (kind : getD s at 0 ≡ 2) where
   pub node-read-short : length s < at + 3 → NodeRead s at None
   node-read-short h = node-read-at s at 2 None there kind (range-short (drop (at + 1) s) (simp length-drop (omega arith)))
+
   pub node-read-turned : at + 2 < length s → getD s (at + 2) 0 < getD s (at + 1) 0 → NodeRead s at None
   node-read-turned h l = node-read-at s at 2 None there kind (range-at s at h ∙ turned (getD s (at + 1) 0) (getD s (at + 2) 0) l)
     where
       turned : (a b : ℕ) → b < a → cond (ltb b 256 && leb a b) (Some (Range a b)) None ≡ None
       turned a b l = grind (arith, tells)
+
   pub node-read-range : at + 2 < length s → getD s (at + 2) 0 < 256 → getD s (at + 1) 0 ≤ getD s (at + 2) 0 → NodeRead s at (Some (Range (getD s (at + 1) 0) (getD s (at + 2) 0)))
   node-read-range h byte l = node-read-at s at 2 (Some (Range (getD s (at + 1) 0) (getD s (at + 2) 0))) there kind (range-at s at h ∙ straight (getD s (at + 1) 0) (getD s (at + 2) 0) byte l)
     where
@@ -135,5 +144,6 @@ decode-other (suc (suc (suc (suc (suc zero))))) s h = absurd (omega arith)
 decode-other (suc (suc (suc (suc (suc (suc zero)))))) s h = absurd (omega arith)
 decode-other (suc (suc (suc (suc (suc (suc (suc zero))))))) s h = absurd (omega arith)
 decode-other (suc (suc (suc (suc (suc (suc (suc (suc k)))))))) s h = refl
+
 pub node-read-other : (s : List ℕ) (at : ℕ) → at < length s → 7 < getD s at 0 → NodeRead s at None
 node-read-other s at h l = node-read-at s at (getD s at 0) None h refl (decode-other (getD s at 0) (drop (at + 1) s) l)

@@ -9,13 +9,17 @@ use Rattle.patterns.specs.Searching.{ends}
 
 abbrev pub a : Pattern
 a = range 97 97
+
 abbrev pub b : Pattern
 b = range 98 98
+
 abbrev pub anything : Pattern
 anything = star (union a b)
+
 -- has an a, and no bb
 abbrev pub tidy : Pattern
 tidy = inter (seq anything (seq a anything)) (compl (seq anything (seq b (seq b anything))))
+
 -- ab; b's, one at least; bb
 abbrev pub three : List Pattern
 three = seq a b ∷ seq b (star b) ∷ seq b b ∷ []

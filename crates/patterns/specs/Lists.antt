@@ -21,6 +21,7 @@ write (union p q) = 4 ∷ (write p ++ write q)
 write (inter p q) = 5 ∷ (write p ++ write q)
 write (compl p) = 6 ∷ write p
 write (star p) = 7 ∷ write p
+
 abbrev pub write-list : List Pattern → List ℕ
 write-list [] = []
 write-list (p ∷ ps) = write p ++ write-list ps
@@ -34,6 +35,7 @@ sound (union p q) = sound p && sound q
 sound (inter p q) = sound p && sound q
 sound (compl p) = sound p
 sound (star p) = sound p
+
 abbrev pub sound-list : List Pattern → Bool
 sound-list [] = true
 sound-list (p ∷ ps) = sound p && sound-list ps
@@ -43,6 +45,7 @@ pub record List-of (s : List ℕ) (ps : List Pattern) : Type 0 where
   pub sounds : sound-list ps ≡ true
   pub few : length ps ≤ 32
   pub short : length s ≤ 4096
+
 abbrev pub One-list : Type 0
 One-list = (s : List ℕ) (ps qs : List Pattern) → List-of s ps → List-of s qs → ps ≡ qs
 

@@ -25,18 +25,22 @@ pub data Pattern : Type 0 where
 abbrev pub null : Word → Bool
 null [] = true
 null (x ∷ xs) = false
+
 abbrev pub single : ℕ → ℕ → Word → Bool
 single a b [] = false
 single a b (x ∷ []) = leb a x && leb x b
 single a b (x ∷ (y ∷ xs)) = false
+
 -- the word can be cut into a front of at most n bytes in f and the rest in g
 abbrev pub cut : (Word → Bool) → (Word → Bool) → ℕ → Word → Bool
 cut f g zero w = f [] && g w
 cut f g (suc n) w = (f (take (suc n) w) && g (drop (suc n) w)) || cut f g n w
+
 -- the same with a front that isn't empty, so that a repetition gets on
 abbrev pub cut-on : (Word → Bool) → (Word → Bool) → ℕ → Word → Bool
 cut-on f g zero w = false
 cut-on f g (suc n) w = (f (take (suc n) w) && g (drop (suc n) w)) || cut-on f g n w
+
 -- the word is made of at most d parts in f; a word of d bytes has no more than d that aren't empty
 abbrev pub many : (Word → Bool) → ℕ → Word → Bool
 many f zero w = null w

@@ -11,7 +11,9 @@ use Rattle.patterns.specs.Patterns.{Pattern, matches}
 
 abbrev pub Language : Type 1
 Language = Word → Type 0
+
 abbrev pub Of : Pattern → Language
 Of p w = matches p w ≡ true
+
 abbrev pub Same-residual : Language → Word → Word → Type 0
 Same-residual L u v = (x : Word) → Bytes x → L (u ++ x) ↔ L (v ++ x)

@@ -16,12 +16,15 @@ use Rattle.patterns.specs.Sizes.{Fits}
 
 abbrev pub anywhere : Pattern → Pattern
 anywhere p = seq (star (range 0 255)) p
+
 abbrev pub bit : Bool → ℕ
 bit true = 1
 bit false = 0
+
 abbrev pub ends : List Pattern → Word → ℕ
 ends [] w = 0
 ends (p ∷ ps) w = bit (matches (anywhere p) w) + 2 * ends ps w
+
 abbrev pub ends-along : List Pattern → Word → Word → List ℕ
 ends-along ps u [] = []
 ends-along ps u (b ∷ w) = ends ps (u ++ b ∷ []) ∷ ends-along ps (u ++ b ∷ []) w
@@ -29,8 +32,10 @@ ends-along ps u (b ∷ w) = ends ps (u ++ b ∷ []) ∷ ends-along ps (u ++ b �
 abbrev pub Same-search : List Pattern → Word → Word → Type 0
 Same-search [] u v = Unit {0}
 Same-search (p ∷ ps) u v = Same-residual (Of (anywhere p)) u v × Same-search ps u v
+
 abbrev pub All-fit : ℕ → List Pattern → Type 0
 All-fit n [] = Unit {0}
 All-fit n (p ∷ ps) = Fits n (anywhere p) × All-fit n ps
+
 abbrev pub Fit-search : ℕ → List Pattern → Type 0
 Fit-search n ps = All-fit n ps × ((firsts : List Word) × Classes (Same-search ps) firsts × (length firsts ≤ n))

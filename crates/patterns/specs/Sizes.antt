@@ -17,8 +17,10 @@ use Rattle.patterns.specs.Residuals.{Language, Of, Same-residual}
 
 abbrev pub Behind : Language → Word → Word → Type 0
 Behind L w v = (u : Word) × (u ++ v ≡ w) × L u
+
 abbrev pub Alive : Language → Word → Type 0
 Alive M v = (x : Word) × Bytes x × M (v ++ x)
+
 abbrev pub Same-behind : Language → Language → Word → Word → Type 0
 Same-behind L M w x =
     ((v : Word) → Behind L w v → Alive M v → (y : Word) × Behind L x y × Same-residual M v y)

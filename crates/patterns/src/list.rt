@@ -7,6 +7,7 @@ ghost use Rattle.patterns.specs.Promises.{PatternAt, PatternRead, Some-pattern
 use crate::node::read_node;
 
 pub const MOST_PATTERNS: usize = 32;
+
 pub const MOST_BYTES: usize = 4096;
 
 // Where the pattern that begins at a place ends, if one begins there.

@@ -83,7 +83,7 @@ pub matches-at-returns-else-matches-at : need.matches-at-returns-else-matches-at
 matches-at-returns-else-matches-at t c =
     matches-two (node-kind (c .width .result) (c .in-Some .ensures tt) (c .width .ensures) (c .in-Union .is)) _ _ refl
     (λ a b mid stop h g. or-second (matches a (c .args .word .now)) (matches b (c .args .word .now)) _ (sym (c .matches-at-in-Union .ensures a mid h) ∙ c .if-matches-at .left)
-      (c .matches-at-else-matches-at .ensures b stop (subst (λ (i : ℕ). PatternAt (c .args .list .now) i b stop) (sym (c .pattern-behind-else-matches-at .ensures a mid h)) g)))
+    (c .matches-at-else-matches-at .ensures b stop (subst (λ (i : ℕ). PatternAt (c .args .list .now) i b stop) (sym (c .pattern-behind-else-matches-at .ensures a mid h)) g)))
 
 -- and
 pub matches-at-matches-at-requires-in-Intersection : need.matches-at-matches-at-requires-in-Intersection
@@ -105,7 +105,7 @@ pub matches-at-returns-then-matches-at-2 : need.matches-at-returns-then-matches-
 matches-at-returns-then-matches-at-2 t c =
     matches-two (node-kind (c .width .result) (c .in-Some .ensures tt) (c .width .ensures) (c .in-Intersection .is)) _ _ refl
     (λ a b mid stop h g. and-second (matches a (c .args .word .now)) (matches b (c .args .word .now)) _ (sym (c .matches-at-in-Intersection .ensures a mid h) ∙ c .if-matches-at-2 .taken)
-      (c .matches-at-then-matches-at-2 .ensures b stop (subst (λ (i : ℕ). PatternAt (c .args .list .now) i b stop) (sym (c .pattern-behind-then-matches-at-2 .ensures a mid h)) g)))
+    (c .matches-at-then-matches-at-2 .ensures b stop (subst (λ (i : ℕ). PatternAt (c .args .list .now) i b stop) (sym (c .pattern-behind-then-matches-at-2 .ensures a mid h)) g)))
 
 pub matches-at-returns-else-matches-at-2 : need.matches-at-returns-else-matches-at-2
 matches-at-returns-else-matches-at-2 t c =
@@ -117,21 +117,23 @@ pub sequence-matches-returns-then-matches-at-2 : need.sequence-matches-returns-t
 sequence-matches-returns-then-matches-at-2 t c p q stop end h g =
     let w = c .args .word .now in
     sym (cut-some (matches p) (matches q) w (length w) (c .loop-cut .cut) (c .loop-cut-test .taken)
-      (cut-serves (matches p) (matches q) w (c .loop-cut .cut) _ _ (c .matches-at .ensures p stop h) (c .matches-at-then-matches-at .ensures q end g) (c .if-matches-at .taken) (c .if-matches-at-2 .taken)))
+    (cut-serves (matches p) (matches q) w (c .loop-cut .cut) _ _ (c .matches-at .ensures p stop h) (c .matches-at-then-matches-at .ensures q end g) (c .if-matches-at .taken) (c .if-matches-at-2 .taken)))
 
 pub sequence-matches-loop-cut-again : need.sequence-matches-loop-cut-again
 sequence-matches-loop-cut-again t c p q stop end h g =
     let w = c .args .word .now in
     below-more _ _ (c .loop-cut .inv p q stop end h g) (elim (c .else-matches-at .came) [
-      sequence-matches-else-matches-at·by·then-matches-at·else-matches-at-2 v ↦ rest-fails (matches p) (matches q) w (c .loop-cut .cut) _ (v .matches-at-then-matches-at .ensures q end g) (v .if-matches-at-2 .left)
-    | sequence-matches-else-matches-at·by·else-matches-at v ↦ front-fails (matches p) (matches q) w (c .loop-cut .cut) _ (c .matches-at .ensures p stop h) (v .if-matches-at .left) ])
+      | sequence-matches-else-matches-at·by·then-matches-at·else-matches-at-2 v ↦ rest-fails (matches p) (matches q) w (c .loop-cut .cut) _ (v .matches-at-then-matches-at .ensures q end g) (v .if-matches-at-2 .left)
+      | sequence-matches-else-matches-at·by·else-matches-at v ↦ front-fails (matches p) (matches q) w (c .loop-cut .cut) _ (c .matches-at .ensures p stop h) (v .if-matches-at .left)
+    ])
 
 pub sequence-matches-returns-else-matches-at : need.sequence-matches-returns-else-matches-at
 sequence-matches-returns-else-matches-at t c p q stop end h g =
     let w = c .args .word .now in
     let all = below-more _ _ (c .loop-cut .inv p q stop end h g) (elim (c .else-matches-at .came) [
-      sequence-matches-else-matches-at·by·then-matches-at·else-matches-at-2 v ↦ rest-fails (matches p) (matches q) w (c .loop-cut .cut) _ (v .matches-at-then-matches-at .ensures q end g) (v .if-matches-at-2 .left)
-    | sequence-matches-else-matches-at·by·else-matches-at v ↦ front-fails (matches p) (matches q) w (c .loop-cut .cut) _ (c .matches-at .ensures p stop h) (v .if-matches-at .left) ]) in
+      | sequence-matches-else-matches-at·by·then-matches-at·else-matches-at-2 v ↦ rest-fails (matches p) (matches q) w (c .loop-cut .cut) _ (v .matches-at-then-matches-at .ensures q end g) (v .if-matches-at-2 .left)
+      | sequence-matches-else-matches-at·by·else-matches-at v ↦ front-fails (matches p) (matches q) w (c .loop-cut .cut) _ (c .matches-at .ensures p stop h) (v .if-matches-at .left)
+    ]) in
     sym (cut-none (matches p) (matches q) w (length w) (λ k l. all k (omega arith)))
 
 -- a repetition: the same with a first part that isn't empty
@@ -139,19 +141,21 @@ pub star-matches-returns-then-star-matches : need.star-matches-returns-then-star
 star-matches-returns-then-star-matches t c p stop h =
     let w = c .args .word .now in
     star-some p w (c .loop-cut .cut) (omega arith) (c .loop-cut-test .taken)
-      (cut-serves (matches p) (matches (star p)) w (c .loop-cut .cut) _ _ (c .matches-at .ensures p stop h) (c .star-matches .ensures p stop h) (c .if-matches-at .taken) (c .if-star-matches .taken))
+    (cut-serves (matches p) (matches (star p)) w (c .loop-cut .cut) _ _ (c .matches-at .ensures p stop h) (c .star-matches .ensures p stop h) (c .if-matches-at .taken) (c .if-star-matches .taken))
 
 pub star-matches-loop-cut-again : need.star-matches-loop-cut-again
 star-matches-loop-cut-again t c p stop h =
     let w = c .args .word .now in
     below-more _ _ (c .loop-cut .inv p stop h) (λ pos. elim (c .else-matches-at .came) [
-      star-matches-else-matches-at·by·then-matches-at·else-star-matches v ↦ rest-fails (matches p) (matches (star p)) w (c .loop-cut .cut) _ (v .star-matches .ensures p stop h) (v .if-star-matches .left)
-    | star-matches-else-matches-at·by·else-matches-at v ↦ front-fails (matches p) (matches (star p)) w (c .loop-cut .cut) _ (c .matches-at .ensures p stop h) (v .if-matches-at .left) ])
+      | star-matches-else-matches-at·by·then-matches-at·else-star-matches v ↦ rest-fails (matches p) (matches (star p)) w (c .loop-cut .cut) _ (v .star-matches .ensures p stop h) (v .if-star-matches .left)
+      | star-matches-else-matches-at·by·else-matches-at v ↦ front-fails (matches p) (matches (star p)) w (c .loop-cut .cut) _ (c .matches-at .ensures p stop h) (v .if-matches-at .left)
+    ])
 
 pub star-matches-returns-else-matches-at : need.star-matches-returns-else-matches-at
 star-matches-returns-else-matches-at t c p stop h =
     let w = c .args .word .now in
     let all = below-more _ _ (c .loop-cut .inv p stop h) (λ pos. elim (c .else-matches-at .came) [
-      star-matches-else-matches-at·by·then-matches-at·else-star-matches v ↦ rest-fails (matches p) (matches (star p)) w (c .loop-cut .cut) _ (v .star-matches .ensures p stop h) (v .if-star-matches .left)
-    | star-matches-else-matches-at·by·else-matches-at v ↦ front-fails (matches p) (matches (star p)) w (c .loop-cut .cut) _ (c .matches-at .ensures p stop h) (v .if-matches-at .left) ]) in
+      | star-matches-else-matches-at·by·then-matches-at·else-star-matches v ↦ rest-fails (matches p) (matches (star p)) w (c .loop-cut .cut) _ (v .star-matches .ensures p stop h) (v .if-star-matches .left)
+      | star-matches-else-matches-at·by·else-matches-at v ↦ front-fails (matches p) (matches (star p)) w (c .loop-cut .cut) _ (c .matches-at .ensures p stop h) (v .if-matches-at .left)
+    ]) in
     star-none p w (omega arith) (λ k pos l. all k (omega arith) pos)
