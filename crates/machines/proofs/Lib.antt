@@ -1,1 +1,4 @@
 pub mod Shortlex
+pub mod Cells
+pub mod Pieces
+pub mod Feeding

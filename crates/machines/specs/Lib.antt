@@ -1,3 +1,6 @@
 -- What the contracts of tables and words cite; nothing here knows of patterns.
 pub mod Words
 pub mod Classes
+pub mod Machines
+pub mod Tables
+pub mod Pieces

@@ -1,2 +1,4 @@
 // Words and tables as such: what this crate proves knows nothing of patterns.
 pub mod order;
+pub mod stream;
+pub mod table;

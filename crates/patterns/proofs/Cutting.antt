@@ -9,9 +9,9 @@ use lib.Dec.{leb}
 use lib.ListN.{length, take, drop, length-append, length-take, take-append-drop}
 use Rattle.std.proofs.shelf.Lists.{take-at, drop-at, length-drop, append-assoc, append-nil}
 use Rattle.std.proofs.shelf.Tests.{and-parts, and-from, or-cases, or-from, or-left, or-right, cases-eq, cases-lt, cases-bool, le-leb}
-use Rattle.machines.specs.Words.{Word, Bytes}
+use Rattle.machines.specs.Words.{Word, Bytes, joined}
 use Rattle.patterns.specs.Patterns.{Pattern, range, seq, star, null, single, cut, cut-on, many, matches}
-use Rattle.patterns.specs.Meanings.{joined, All, Meaning}
+use Rattle.patterns.specs.Meanings.{All, Meaning}
 
 -- by places
 module _ (f g : Word → Bool) (w : Word) where

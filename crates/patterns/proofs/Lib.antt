@@ -5,3 +5,4 @@ pub mod Extents
 pub mod Cutting
 pub mod Matching
 pub mod Ending
+pub mod FedPieces

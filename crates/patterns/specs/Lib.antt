@@ -6,5 +6,6 @@ pub mod Sizes
 pub mod Lists
 pub mod Nodes
 pub mod Searching
+pub mod Feeding
 pub mod Promises
 pub mod Cases

@@ -1,5 +1,4 @@
 -- What a sequence and a repetition match, said by words and not by the tests that decide it. Assumes nothing.
---   joined ws    the words of ws, one after the other
 --   All P ws     P holds of each of them
 --   Meaning      p then q matches the words that are one of p's and then one of q's; many p matches
 --                the words that are any number of p's, empty ones among them
@@ -7,12 +6,8 @@ use mathlib.Core.Path.{_≡_}
 use mathlib.Core.Logic.{_↔_}
 use mathlib.Core.Bool.{true}
 use mathlib.Core.List.{List, [], _∷_, _++_}
-use Rattle.machines.specs.Words.{Word}
+use Rattle.machines.specs.Words.{Word, joined}
 use Rattle.patterns.specs.Patterns.{Pattern, seq, star, matches}
-
-abbrev pub joined : List Word → Word
-joined [] = []
-joined (w ∷ ws) = w ++ joined ws
 
 abbrev pub All : (Word → Type 0) → List Word → Type 0
 All P [] = Unit {0}

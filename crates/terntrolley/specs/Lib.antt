@@ -1,0 +1,2 @@
+-- What the exported calls ensure.
+pub mod Codes
