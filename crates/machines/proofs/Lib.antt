@@ -3,3 +3,7 @@ pub mod Codes
 pub mod Cells
 pub mod Pieces
 pub mod Feeding
+pub mod Places
+pub mod Pigeons
+pub mod Nerode
+pub mod Tabled

@@ -7,3 +7,4 @@ pub mod Pieces
 pub mod Columns
 pub mod Minimal
 pub mod Systems
+pub mod Laws
