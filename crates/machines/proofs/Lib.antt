@@ -7,3 +7,6 @@ pub mod Places
 pub mod Pigeons
 pub mod Nerode
 pub mod Tabled
+pub mod Walking
+pub mod Least
+pub mod Firsts

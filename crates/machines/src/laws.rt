@@ -1,5 +1,12 @@
 // What holds of every table and every system of keys, as contracts: a crate that calls one of these has the law.
-ghost use Rattle.machines.specs.Laws.{One-table, Crowded};
+ghost use Rattle.machines.specs.Laws.{Exact, One-table, Least-table, Crowded, Key-classes};
+
+// A table of f's classes shows f after every text, in any pieces, and its rows are the classes.
+pub fn exact_stands() -> u8
+    ensures { λ _. ⌜ Exact ⌝ }
+{
+    0
+}
 
 // An output function has one table at most, first words and numbers.
 pub fn one_table_stands() -> u8
@@ -8,9 +15,23 @@ pub fn one_table_stands() -> u8
     0
 }
 
+// No table gives f with fewer rows than f has classes.
+pub fn least_table_stands() -> u8
+    ensures { λ _. ⌜ Least-table ⌝ }
+{
+    0
+}
+
 // n + 1 words of which no two are in one class refute that there are n classes.
 pub fn crowded_stands() -> u8
     ensures { λ _. ⌜ Crowded ⌝ }
+{
+    0
+}
+
+// The keys of a system part the words into classes, as many as there are keys.
+pub fn key_classes_stand() -> u8
+    ensures { λ _. ⌜ Key-classes ⌝ }
 {
     0
 }
