@@ -1,28 +1,26 @@
 -- From machines whose rows are numbered by first words to lists of those words: the classes that the rows, a least machine
 -- and an explored system's keys part the words into. Assumes nothing.
 --   Firsts k go firsts    the first words that lead to the k rows, row by row
-use mathlib.Core.Path.{_≡_, refl, sym, ap, subst, _∙_}
-use mathlib.Core.Logic.{_⊎_, inl, inr, ⊎-elim, _↔_}
+use mathlib.Core.Path.{_≡_, sym, ap, _∙_}
+use mathlib.Core.Logic.{⊎-elim, _↔_}
 use mathlib.Core.List.{List, [], _∷_, _++_}
 use mathlib.Core.Option.{some}
 use Prim.Native.Nat.{ℕ, _+_, _*_, _<_, _≤_}
 use native.Mathlib.Omega.{arith}
-use lib.ListN.{length, getD}
+use lib.ListN.{length}
 use Rattle.std.proofs.shelf.Tests.{cases-eq}
 use Rattle.machines.specs.Words.{Word, Bytes}
 use Rattle.machines.specs.Classes.{Classes, nth}
 use Rattle.machines.specs.Machines.{run}
-use Rattle.machines.specs.Tables.{Sound-table, next, output, walk}
 use Rattle.machines.specs.Columns.{leads, shown}
-use Rattle.machines.specs.Minimal.{code, Nerode, Gives, Closed, First, Numbered, Minimal}
-use Rattle.machines.specs.Systems.{Key, reach, Pairwise, Explored}
-use Rattle.machines.specs.Laws.{Table-of, Same-key, Key-classes}
+use Rattle.machines.specs.Minimal.{Nerode, Gives, Closed, First, Numbered, Minimal}
+use Rattle.machines.specs.Systems.{Key, Explored}
+use Rattle.machines.specs.Laws.{Table-of, Same-key}
 use Rattle.machines.proofs.Cells.{nth-getD}
 use Rattle.machines.proofs.Codes.{less-code, code-less, run-push, bytes-push}
-use Rattle.machines.proofs.Places.{nth-at, nth-below, nth-one, listed}
-use Rattle.machines.proofs.Pigeons.{pairwise-many, among-few}
-use Rattle.machines.proofs.Nerode.{gives-after, gives-row, run-below, key-push}
-use Rattle.machines.proofs.Least.{least, sound-closed}
+use Rattle.machines.proofs.Places.{nth-at, nth-below, listed}
+use Rattle.machines.proofs.Nerode.{gives-after, gives-row, run-below}
+use Rattle.machines.proofs.Least.{least}
 
 pub record Firsts (k : ℕ) (go : ℕ → ℕ → ℕ) (firsts : List Word) : Type 0 where
   pub long : length firsts ≡ k
@@ -81,33 +79,39 @@ module _ {f : Word → ℕ} {k : ℕ} {go : ℕ → ℕ → ℕ} {show : ℕ →
       let F = numbered-firsts (M .numbered) in
       omega (arith, F .1 .long, least goes shows n i (minimal-classes (F .1)) closed l gives)
 
--- a least machine in memory is the table of its function
-pub minimal-table : {f : Word → ℕ} {k : ℕ} {column : ℕ → ℕ} {t : List ℕ} {firsts : List Word} → ((b : ℕ) → b < 256 → column b < 256)
-    → Minimal f k (leads column t) (shown t) → length t ≡ 257 * k → Firsts k (leads column t) firsts → Table-of column (Nerode f) f firsts t
-minimal-table {f = f} {k = k} {column = column} {t = t} {firsts = firsts} narrow M long F = record {
-  classes = minimal-classes M F;
+-- a machine in memory that is numbered and gives f is the table of what its rows tell apart
+pub numbered-table : {E : Word → Word → Type 0} {f : Word → ℕ} {k : ℕ} {column : ℕ → ℕ} {t : List ℕ} {firsts : List Word}
+    → ((b : ℕ) → b < 256 → column b < 256) → Numbered k (leads column t) → Gives f (leads column t) (shown t) → length t ≡ 257 * k
+    → ((u v : Word) → Bytes u → Bytes v → (run (leads column t) 0 u ≡ run (leads column t) 0 v) ↔ E u v)
+    → Firsts k (leads column t) firsts → Table-of column E f firsts t
+numbered-table {k = k} {column = column} {t = t} {firsts = firsts} narrow N gives long iff F = record {
+  classes = numbered-classes N F iff;
   long = omega (arith, F .long);
   outputs = λ i u m.
       let a = F .first i u m in
       let l : i < k = omega (arith, nth-below firsts i u m, F .long) in
-      nth-getD t (257 * i) (omega arith) ∙ ap some (ap (shown t) (sym (a .comes)) ∙ M .gives u (a .bytes));
+      nth-getD t (257 * i) (omega arith) ∙ ap some (ap (shown t) (sym (a .comes)) ∙ gives u (a .bytes));
   goes = λ i b u m l.
       let a = F .first i u m in
       let c = narrow b l in
       let h : i < k = omega (arith, nth-below firsts i u m, F .long) in
-      let j : leads column t i b < k = M .numbered .closed i b h l in
+      let j : leads column t i b < k = N .closed i b h l in
       let n = nth-at firsts (leads column t i b) (omega (arith, F .long)) in
       let v = F .first (leads column t i b) (n .0) (n .1) in (
         leads column t i b,
         n .0,
         nth-getD t (257 * i + (1 + column b)) (omega arith),
         n .1,
-        minimal-rows M (u ++ b ∷ []) (n .0) (bytes-push u b (a .bytes) l) (v .bytes) .0
+        iff (u ++ b ∷ []) (n .0) (bytes-push u b (a .bytes) l) (v .bytes) .0
             (run-push (leads column t) 0 u b ∙ ap (λ r. leads column t r b) (a .comes) ∙ sym (v .comes)),
       );
 }
 
--- the least machine in memory, with the list of its first words
+-- so a least machine in memory is the table of its function
+pub minimal-table : {f : Word → ℕ} {k : ℕ} {column : ℕ → ℕ} {t : List ℕ} {firsts : List Word} → ((b : ℕ) → b < 256 → column b < 256)
+    → Minimal f k (leads column t) (shown t) → length t ≡ 257 * k → Firsts k (leads column t) firsts → Table-of column (Nerode f) f firsts t
+minimal-table narrow M long F = numbered-table narrow (M .numbered) (M .gives) long (minimal-rows M) F
+
 pub minimal-has-table : {f : Word → ℕ} {k : ℕ} {t : List ℕ} → Minimal f k (leads (λ b. b) t) (shown t) → length t ≡ 257 * k
     → (firsts : List Word) × (length firsts ≡ k) × Table-of (λ b. b) (Nerode f) f firsts t
 minimal-has-table M long =
@@ -128,11 +132,3 @@ module _ {go : Key → ℕ → Key} {s : Key} {k : ℕ} {key : ℕ → Key} {goe
 
   pub explored-classes : {firsts : List Word} → Firsts k goes firsts → Classes (Same-key go s) firsts
   explored-classes F = numbered-classes (X .numbered) F explored-rows
-
-pub key-classes-stand : Key-classes
-key-classes-stand = record {
-  push = key-push;
-  classes = λ go s k key goes X. let F = numbered-firsts (X .numbered) in (F .0, explored-classes X (F .1), F .1 .long);
-  few = λ go s ks firsts. among-few ks;
-  many = λ go s n ws firsts. pairwise-many (λ u v a b e. e);
-}

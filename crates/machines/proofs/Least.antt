@@ -4,7 +4,7 @@ use mathlib.Core.List.{List, _++_}
 use mathlib.Core.Option.{some}
 use Prim.Native.Nat.{ℕ, _+_, _*_, _<_, _≤_}
 use native.Mathlib.Omega.{arith}
-use lib.ListN.{length, getD}
+use lib.ListN.{length}
 use Rattle.machines.specs.Words.{Word, Bytes}
 use Rattle.machines.specs.Classes.{Classes, nth}
 use Rattle.machines.specs.Machines.{run}

@@ -6,7 +6,9 @@ pub mod Feeding
 pub mod Places
 pub mod Pigeons
 pub mod Nerode
-pub mod Tabled
+pub mod Unique
 pub mod Walking
 pub mod Least
 pub mod Firsts
+pub mod Finite
+pub mod Reached

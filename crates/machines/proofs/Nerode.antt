@@ -1,13 +1,13 @@
 -- What f tells apart is a congruence, and the coarsest that agrees with f; what the rows of a machine and the keys of a
 -- system tell apart. Assumes nothing.
 use mathlib.Core.Path.{_≡_, refl, sym, ap, _∙_}
-use mathlib.Core.List.{List, [], _∷_, _++_}
+use mathlib.Core.List.{[], _∷_, _++_}
 use Prim.Native.Nat.{ℕ, _<_}
 use Rattle.std.proofs.shelf.Lists.{append-assoc, append-nil}
 use Rattle.machines.specs.Words.{Word, Bytes}
 use Rattle.machines.specs.Machines.{run}
 use Rattle.machines.specs.Minimal.{Nerode, Gives, Closed}
-use Rattle.machines.specs.Systems.{Key, reach}
+use Rattle.machines.specs.Systems.{Key}
 use Rattle.machines.specs.Laws.{Congruence, Same-key}
 use Rattle.machines.proofs.Codes.{bytes-append, reach-push}
 use Rattle.machines.proofs.Pieces.{run-append}

@@ -1,7 +1,7 @@
 -- More things than places: two share one. Assumes nothing.
-use mathlib.Core.Path.{_≡_, refl, sym, ap, subst, _∙_}
+use mathlib.Core.Path.{_≡_, refl, sym, ap, _∙_}
 use mathlib.Core.Logic.{_⊎_, inl, inr, ⊎-elim}
-use mathlib.Core.List.{List, [], _∷_}
+use mathlib.Core.List.{List, []}
 use mathlib.Core.Option.{some}
 use Prim.Native.Nat.{ℕ, zero, suc, _+_, _<_, _≤_}
 use native.Mathlib.Omega.{arith}
@@ -82,19 +82,18 @@ module _ {next : Key → ℕ → Key} {s : Key} where
       two : (i k j : ℕ) → i < k → k < n + 1 → At i j → At k j → ⊥
       two i k j l m (u, a, d) (v, b, e) = p .differ i k l m (sym d ∙ ap (reach next s) (nth-one firsts j u v a b) ∙ e)
 
-  -- at most as many classes as keys that are reached
-  pub among-few : (ks : List Key) {firsts : List Word} → Among next s ks → Classes (Same-key next s) firsts → length firsts ≤ length ks
-  among-few ks {firsts = firsts} among cs = pigeons (length ks) (length firsts) At put two
+  -- words with different keys are at most as many as the keys that are reached
+  pub among-few : (ks : List Key) {ws : List Word} → Among next s ks → Apart (Same-key next s) ws → length ws ≤ length ks
+  among-few ks {ws = ws} among apart = pigeons (length ks) (length ws) At put two
     where
       At : ℕ → ℕ → Type 0
-      At i j = (u : Word) × (nth firsts i ≡ some u) × (nth ks j ≡ some (reach next s u))
+      At i j = (u : Word) × (nth ws i ≡ some u) × (nth ks j ≡ some (reach next s u))
 
-      put : (i : ℕ) → i < length firsts → (j : ℕ) × (j < length ks) × At i j
+      put : (i : ℕ) → i < length ws → (j : ℕ) × (j < length ks) × At i j
       put i l =
-          let n = nth-at firsts i l in
-          let h = among (n .0) (cs .bytes i (n .0) (n .1)) in
+          let n = nth-at ws i l in
+          let h = among (n .0) (apart .bytes i (n .0) (n .1)) in
           (h .0, nth-below ks (h .0) (reach next s (n .0)) (h .1), (n .0, n .1, h .1))
 
-      two : (i k j : ℕ) → i < k → k < length firsts → At i j → At k j → ⊥
-      two i k j l m (u, a, d) (v, b, e) =
-          omega (arith, cs .differ i k u v a b (nth-one ks j (reach next s u) (reach next s v) d e))
+      two : (i k j : ℕ) → i < k → k < length ws → At i j → At k j → ⊥
+      two i k j l m (u, a, d) (v, b, e) = apart .differ i k u v a b l (nth-one ks j (reach next s u) (reach next s v) d e)

@@ -1,10 +1,11 @@
 -- What stands at a place of a list, and a list made of what is known to be there for each place. Assumes nothing.
 use mathlib.Core.Path.{_≡_, refl, ap, subst}
+use mathlib.Core.Logic.{_⊎_, inl, inr, ⊎-elim}
 use mathlib.Core.List.{List, [], _∷_, _++_}
-use mathlib.Core.Option.{Option, some, none}
-use Prim.Native.Nat.{ℕ, zero, suc, _+_, _<_}
+use mathlib.Core.Option.{some, none}
+use Prim.Native.Nat.{ℕ, zero, suc, _<_}
 use native.Mathlib.Omega.{arith}
-use lib.ListN.{length}
+use lib.ListN.{length, getD}
 use Rattle.machines.specs.Classes.{nth}
 
 pub none-some : {A : Type 0} (x : A) → none ≡ some x → ⊥
@@ -49,3 +50,24 @@ module _ {A : Type 0} where
       → (xs : List A) × (length xs ≡ n) × ((i : ℕ) (x : A) → nth xs i ≡ some x → P i x)
   listed zero P h = ([], refl, λ i x e. absurd (none-some x e))
   listed (suc n) P h = more n P (h 0 (omega arith)) (listed n (λ i. P (suc i)) (λ i l. h (suc i) (omega arith)))
+
+  pub nth-read : (xs : List A) (d : A) (i : ℕ) → i < length xs → nth xs i ≡ some (getD xs i d)
+  nth-read [] d i h = absurd (omega arith)
+  nth-read (x ∷ xs) d zero h = refl
+  nth-read (x ∷ xs) d (suc i) h = nth-read xs d i (omega arith)
+
+  -- one more at the end
+  pub nth-front : (xs ys : List A) (i : ℕ) (x : A) → nth xs i ≡ some x → nth (xs ++ ys) i ≡ some x
+  nth-front [] ys i x e = absurd (none-some x e)
+  nth-front (z ∷ xs) ys zero x e = e
+  nth-front (z ∷ xs) ys (suc i) x e = nth-front xs ys i x e
+
+  pub nth-last : (xs : List A) (y : A) → nth (xs ++ y ∷ []) (length xs) ≡ some y
+  nth-last [] y = refl
+  nth-last (x ∷ xs) y = nth-last xs y
+
+  pub nth-push : (xs : List A) (y : A) (i : ℕ) (x : A) → nth (xs ++ y ∷ []) i ≡ some x → (nth xs i ≡ some x) ⊎ ((i ≡ length xs) × (y ≡ x))
+  nth-push [] y zero x e = inr (refl, cc)
+  nth-push [] y (suc i) x e = absurd (none-some x e)
+  nth-push (z ∷ xs) y zero x e = inl e
+  nth-push (z ∷ xs) y (suc i) x e = ⊎-elim (λ a. inl a) (λ b. inr (ap suc (b .0), b .1)) (nth-push xs y i x e)

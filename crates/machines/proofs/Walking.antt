@@ -1,16 +1,16 @@
 -- Where a machine whose rows are classes leads, and what it shows: f, after every text and in any pieces. Assumes nothing.
 use mathlib.Core.Path.{_≡_, refl, sym, ap, subst, _∙_}
-use mathlib.Core.Logic.{_⊎_, inl, inr, ⊎-elim, _↔_}
+use mathlib.Core.Logic.{⊎-elim, _↔_}
 use mathlib.Core.List.{List, [], _∷_, _++_}
 use mathlib.Core.Option.{some}
-use Prim.Native.Nat.{ℕ, zero, suc, _+_, _*_, _<_, _≤_}
+use Prim.Native.Nat.{ℕ, zero, suc, _+_, _*_, _<_}
 use native.Mathlib.Omega.{arith}
-use lib.ListN.{length, getD}
+use lib.ListN.{length}
 use Rattle.std.proofs.shelf.Lists.{append-assoc, append-nil}
 use Rattle.machines.specs.Words.{Word, Bytes, joined, Less, shorter}
 use Rattle.machines.specs.Classes.{Classes, nth}
-use Rattle.machines.specs.Machines.{run, trace, runs, traces}
-use Rattle.machines.specs.Tables.{Sound-table, or0, next, output, walk}
+use Rattle.machines.specs.Machines.{run, trace, traces}
+use Rattle.machines.specs.Tables.{Sound-table, or0, next, output}
 use Rattle.machines.specs.Columns.{leads, shown}
 use Rattle.machines.specs.Minimal.{Nerode, Gives, Closed}
 use Rattle.machines.specs.Laws.{Table-of, Congruence, along, Exact}

@@ -1,22 +1,27 @@
 -- What holds of every table whose rows are classes of words, and of every system of keys; nothing here knows what the
 -- outputs mean. A contract takes a statement in Type 0, and one over every relation is in Type 1: so the laws are stated of
--- Nerode f, for every output function f, and of equal keys, for every system; the lemmas behind them are of any relation.
+-- Nerode f, for every output function f, of what a test decides, and of equal keys, for every system; the lemmas behind them
+-- are of any relation.
 -- Assumes nothing.
 --   Table-of column E f firsts t   a row for each class of E, by first words: what it shows is f of its first word, and
 --                                  each byte's column leads to the class of that word with the byte behind it
 --   Congruence E                   an equality of words that a byte behind both keeps
 --   along f u w                    f after each byte of w, where u was read before
 --   Apart E ws                     words of which no two are related
+--   At-most n E, More-than n E     E has at most n classes; there are n + 1 words of which no two are related
+--   Decided g u v                  a relation that is given by its test
 --   Same-key next s u v            the system leads u and v to the same key
 --   Among next s ks                every key that is reached is one of ks
 --   Exact                          a table of f's classes shows f after every text, in any pieces, and its rows are the classes
 --   One-table                      an output function has one table at most: first words and numbers
 --   Least-table                    no table that is sound gives f with fewer rows, however they are numbered and wherever it begins
---   Crowded                        n + 1 words of which no two are in one class are too many for n classes
+--   Crowded                        n + 1 words of which no two are in one class are too many for n classes; where a test
+--                                  decides, there are either so many words or at most n classes
 --   Key-classes                    the keys of a system part the words into classes: a byte leads from class to class, there are
---                                  as many as keys are reached, and n + 1 words with different keys are too many for n
+--                                  as many as keys are reached, and for each n at most n or n + 1 words with different keys
 use mathlib.Core.Path.{_≡_}
-use mathlib.Core.Logic.{_↔_}
+use mathlib.Core.Logic.{_⊎_, _↔_}
+use mathlib.Core.Bool.{Bool, true}
 use mathlib.Core.List.{List, [], _∷_, _++_}
 use mathlib.Core.Option.{some}
 use Prim.Native.Nat.{ℕ, _+_, _*_, _<_, _≤_}
@@ -49,6 +54,15 @@ pub record Apart (E : Word → Word → Type 0) (ws : List Word) : Type 0 where
   pub bytes : (i : ℕ) (u : Word) → nth ws i ≡ some u → Bytes u
   pub differ : (i j : ℕ) (u v : Word) → nth ws i ≡ some u → nth ws j ≡ some v → i < j → E u v → ⊥
 
+abbrev pub At-most : ℕ → (Word → Word → Type 0) → Type 0
+At-most n E = (firsts : List Word) × Classes E firsts × (length firsts ≤ n)
+
+abbrev pub More-than : ℕ → (Word → Word → Type 0) → Type 0
+More-than n E = (ws : List Word) × (length ws ≡ n + 1) × Apart E ws
+
+abbrev pub Decided : (Word → Word → Bool) → Word → Word → Type 0
+Decided g u v = g u v ≡ true
+
 abbrev pub Same-key : (Key → ℕ → Key) → Key → Word → Word → Type 0
 Same-key next s u v = reach next s u ≡ reach next s v
 
@@ -74,15 +88,18 @@ abbrev pub Least-table : Type 0
 Least-table = (f : Word → ℕ) (firsts : List Word) (t : List ℕ) (k i : ℕ) → Classes (Nerode f) firsts → Sound-table k t → i < k
     → ((w : Word) → Bytes w → output t (walk t i w) ≡ f w) → length firsts ≤ k
 
-abbrev pub Crowded : Type 0
-Crowded = (f : Word → ℕ) (n : ℕ) (ws firsts : List Word) → length ws ≡ n + 1 → Apart (Nerode f) ws
-    → Classes (Nerode f) firsts → length firsts ≤ n → ⊥
+pub record Crowded : Type 0 where
+  pub nerode : (f : Word → ℕ) (n : ℕ) (ws firsts : List Word) → length ws ≡ n + 1 → Apart (Nerode f) ws
+      → Classes (Nerode f) firsts → length firsts ≤ n → ⊥
+  pub decided : (g : Word → Word → Bool) → Congruence (Decided g) → (n : ℕ) (ws firsts : List Word) → length ws ≡ n + 1
+      → Apart (Decided g) ws → Classes (Decided g) firsts → length firsts ≤ n → ⊥
+  pub finite : (g : Word → Word → Bool) → Congruence (Decided g) → (n : ℕ) → At-most n (Decided g) ⊎ More-than n (Decided g)
 
 pub record Key-classes : Type 0 where
   pub push : (next : Key → ℕ → Key) (s : Key) (u v : Word) (b : ℕ) → Same-key next s u v → Same-key next s (u ++ b ∷ []) (v ++ b ∷ [])
   pub classes : (next : Key → ℕ → Key) (s : Key) (k : ℕ) (key : ℕ → Key) (goes : ℕ → ℕ → ℕ) → Explored next s k key goes
       → (firsts : List Word) × Classes (Same-key next s) firsts × (length firsts ≡ k)
-  pub few : (next : Key → ℕ → Key) (s : Key) (ks : List Key) (firsts : List Word) → Among next s ks
-      → Classes (Same-key next s) firsts → length firsts ≤ length ks
+  pub few : (next : Key → ℕ → Key) (s : Key) (ks : List Key) → Among next s ks → At-most (length ks) (Same-key next s)
   pub many : (next : Key → ℕ → Key) (s : Key) (n : ℕ) (ws firsts : List Word) → Pairwise next s (n + 1) ws
       → Classes (Same-key next s) firsts → length firsts ≤ n → ⊥
+  pub finite : (next : Key → ℕ → Key) (s : Key) (n : ℕ) → At-most n (Same-key next s) ⊎ ((ws : List Word) × Pairwise next s (n + 1) ws)

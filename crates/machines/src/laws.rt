@@ -22,14 +22,14 @@ pub fn least_table_stands() -> u8
     0
 }
 
-// n + 1 words of which no two are in one class refute that there are n classes.
+// n + 1 words of which no two are in one class refute that there are n classes; where a test decides, one or the other holds.
 pub fn crowded_stands() -> u8
     ensures { λ _. ⌜ Crowded ⌝ }
 {
     0
 }
 
-// The keys of a system part the words into classes, as many as there are keys.
+// The keys of a system part the words into classes, as many as keys are reached.
 pub fn key_classes_stand() -> u8
     ensures { λ _. ⌜ Key-classes ⌝ }
 {

@@ -1,26 +1,17 @@
--- Where a table of classes leads, what it shows, and that it is the only one and the least. Assumes nothing.
-use mathlib.Core.Path.{_≡_, refl, sym, ap, subst, _∙_}
-use mathlib.Core.Logic.{_⊎_, inl, inr, ⊎-elim, _↔_}
+-- A relation has one list of first words, and an output function one table over it. Assumes nothing.
+use mathlib.Core.Path.{_≡_, refl, sym, ap, _∙_}
+use mathlib.Core.Logic.{⊎-elim}
 use mathlib.Core.List.{List, [], _∷_, _++_}
-use mathlib.Core.Option.{Option, some, none}
-use Prim.Native.Nat.{ℕ, zero, suc, _+_, _*_, _/_, _%_, _<_, _≤_}
+use mathlib.Core.Option.{some}
+use Prim.Native.Nat.{ℕ, zero, suc, _+_, _*_, _/_, _%_, _<_}
 use native.Mathlib.Omega.{arith}
-use lib.ListN.{length, getD}
-use Rattle.std.proofs.shelf.Lists.{append-assoc, append-nil}
-use Rattle.machines.specs.Words.{Word, Bytes, joined, Less, shorter}
+use lib.ListN.{length}
+use Rattle.machines.specs.Words.{Word, Less}
 use Rattle.machines.specs.Classes.{Classes, nth}
-use Rattle.machines.specs.Machines.{run, trace, runs, traces}
-use Rattle.machines.specs.Tables.{Sound-table, or0, next, output, walk}
-use Rattle.machines.specs.Columns.{leads, shown}
-use Rattle.machines.specs.Minimal.{Nerode, Gives, Closed}
-use Rattle.machines.specs.Laws.{Table-of, Congruence, along, Exact, One-table, Least-table}
-use Rattle.machines.proofs.Cells.{or0-nth, sound-inside}
-use Rattle.machines.proofs.Shortlex.{less-irreflexive, less-transitive, less-total, less-before}
-use Rattle.machines.proofs.Codes.{bytes-append}
-use Rattle.machines.proofs.Pieces.{run-append, runs-joined, traces-joined}
-use Rattle.machines.proofs.Places.{none-some, nth-at, nth-below, nth-one, nth-same}
-use Rattle.machines.proofs.Pigeons.{pigeons}
-use Rattle.machines.proofs.Nerode.{nerode-congruence, nerode-here, run-below}
+use Rattle.machines.specs.Laws.{Table-of, One-table}
+use Rattle.machines.proofs.Shortlex.{less-irreflexive, less-transitive, less-total}
+use Rattle.machines.proofs.Places.{none-some, nth-at, nth-below, nth-same}
+use Rattle.machines.proofs.Nerode.{nerode-congruence}
 
 -- two lists in order with the same words are one
 in-order-same : (f g : List Word)
