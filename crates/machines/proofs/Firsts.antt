@@ -1,26 +1,28 @@
 -- From machines whose rows are numbered by first words to lists of those words: the classes that the rows, a least machine
 -- and an explored system's keys part the words into. Assumes nothing.
 --   Firsts k go firsts    the first words that lead to the k rows, row by row
-use mathlib.Core.Path.{_≡_, sym, ap, _∙_}
+use mathlib.Core.Path.{_≡_, refl, sym, ap, _∙_}
 use mathlib.Core.Logic.{⊎-elim, _↔_}
 use mathlib.Core.List.{List, [], _∷_, _++_}
 use mathlib.Core.Option.{some}
 use Prim.Native.Nat.{ℕ, _+_, _*_, _<_, _≤_}
 use native.Mathlib.Omega.{arith}
 use lib.ListN.{length}
-use Rattle.std.proofs.shelf.Tests.{cases-eq}
+use Rattle.std.proofs.shelf.Tests.{cases-eq, cases-lt}
 use Rattle.machines.specs.Words.{Word, Bytes}
 use Rattle.machines.specs.Classes.{Classes, nth}
 use Rattle.machines.specs.Machines.{run}
 use Rattle.machines.specs.Columns.{leads, shown}
-use Rattle.machines.specs.Minimal.{Nerode, Gives, Closed, First, Numbered, Minimal}
-use Rattle.machines.specs.Systems.{Key, Explored}
-use Rattle.machines.specs.Laws.{Table-of, Same-key}
+use Rattle.machines.specs.Minimal.{code, Nerode, Gives, Closed, First, Numbered, Minimal}
+use Rattle.machines.specs.Systems.{Key, reach, Explored}
+use Rattle.machines.specs.Laws.{Table-of, Congruence, Same-key, Minimal-table}
 use Rattle.machines.proofs.Cells.{nth-getD}
 use Rattle.machines.proofs.Codes.{less-code, code-less, run-push, bytes-push}
 use Rattle.machines.proofs.Places.{nth-at, nth-below, listed}
-use Rattle.machines.proofs.Nerode.{gives-after, gives-row, run-below}
+use Rattle.machines.proofs.Nerode.{nerode-congruence, gives-after, gives-row, run-below}
 use Rattle.machines.proofs.Least.{least}
+use Rattle.machines.proofs.Unique.{one-table}
+use Rattle.machines.proofs.Walking.{Machine-of, at-row, machine-closed, machine-rows, machine-first}
 
 pub record Firsts (k : ℕ) (go : ℕ → ℕ → ℕ) (firsts : List Word) : Type 0 where
   pub long : length firsts ≡ k
@@ -117,6 +119,50 @@ pub minimal-has-table : {f : Word → ℕ} {k : ℕ} {t : List ℕ} → Minimal 
 minimal-has-table M long =
     let F = numbered-firsts (M .numbered) in (F .0, F .1 .long, minimal-table (λ b l. l) M long (F .1))
 
+pub minimal-one : {f : Word → ℕ} {j k : ℕ} {s t : List ℕ} → Minimal f j (leads (λ b. b) s) (shown s) → length s ≡ 257 * j
+    → Minimal f k (leads (λ b. b) t) (shown t) → length t ≡ 257 * k → (j ≡ k) × (s ≡ t)
+minimal-one {f = f} {s = s} {t = t} M p N q =
+    let a = minimal-has-table M p in
+    let b = minimal-has-table N q in
+    let e = one-table (nerode-congruence f .back) (nerode-congruence f .on) (a .0) (b .0) s t (a .2) (b .2) in
+    (sym (a .1) ∙ ap length (e .0) ∙ b .1, e .1)
+
+pub minimal-table-stands : Minimal-table
+minimal-table-stands = record {
+  table = λ f k t. minimal-has-table;
+  one = λ f j k s t. minimal-one;
+  least = λ f k next output M n i goes shows. minimal-least M goes shows n i;
+}
+
+-- a machine with a row for each class is numbered by first words
+module _ {E : Word → Word → Type 0} {f : Word → ℕ} {firsts : List Word} {go : ℕ → ℕ → ℕ} {show : ℕ → ℕ} (R : Congruence E) (M : Machine-of E f firsts go show) where
+  machine-least : (i : ℕ) (u : Word) → nth firsts i ≡ some u → First go i u
+  machine-least i u m = let o = M .classes .bytes i u m in record {
+    bytes = o;
+    comes = machine-first R M i u m;
+    least = λ v ok e. ⊎-elim
+        (λ (l : code 0 v < code 0 u). absurd (M .classes .first i u v m ok (code-less v u l o) (machine-rows R M u v o ok .0 (machine-first R M i u m ∙ sym e))))
+        (λ (h : code 0 u ≤ code 0 v). h)
+        (cases-lt (code 0 v) (code 0 u));
+  }
+
+  pub machine-firsts : Firsts (length firsts) go firsts
+  machine-firsts = record { long = refl; first = machine-least }
+
+  pub machine-numbered : Numbered (length firsts) go
+  machine-numbered = record {
+    some = let a = at-row R M [] tt in nth-below firsts 0 (a .0) (a .1);
+    closed = machine-closed R M;
+    first = λ i l. let n = nth-at firsts i l in (n .0, machine-least i (n .0) (n .1));
+    order = λ i j u v l h a b.
+        let m = nth-at firsts i (omega arith) in
+        let n = nth-at firsts j h in
+        let c = machine-least i (m .0) (m .1) in
+        let d = machine-least j (n .0) (n .1) in
+        let o : code 0 (m .0) < code 0 (n .0) = less-code 0 (M .classes .order i j (m .0) (n .0) (m .1) (n .1) l) (c .bytes) in
+        omega (arith, a .least (m .0) (c .bytes) (c .comes), d .least v (b .bytes) (b .comes));
+  }
+
 module _ {go : Key → ℕ → Key} {s : Key} {k : ℕ} {key : ℕ → Key} {goes : ℕ → ℕ → ℕ} (X : Explored go s k key goes) where
   pub explored-rows : (u v : Word) → Bytes u → Bytes v → (run goes 0 u ≡ run goes 0 v) ↔ Same-key go s u v
   explored-rows u v a b = (
@@ -132,3 +178,12 @@ module _ {go : Key → ℕ → Key} {s : Key} {k : ℕ} {key : ℕ → Key} {goe
 
   pub explored-classes : {firsts : List Word} → Firsts k goes firsts → Classes (Same-key go s) firsts
   explored-classes F = numbered-classes (X .numbered) F explored-rows
+
+-- an explored system in memory that shows f of each key is the table of what the keys tell apart
+pub explored-table : {next : Key → ℕ → Key} {s : Key} {k : ℕ} {key : ℕ → Key} {column : ℕ → ℕ} {f : Word → ℕ} {t : List ℕ} {firsts : List Word}
+    (show : Key → ℕ) → ((b : ℕ) → b < 256 → column b < 256) → Explored next s k key (leads column t) → length t ≡ 257 * k
+    → ((i : ℕ) → i < k → shown t i ≡ show (key i)) → ((w : Word) → Bytes w → show (reach next s w) ≡ f w)
+    → Firsts k (leads column t) firsts → Table-of column (Same-key next s) f firsts t
+explored-table {column = column} {t = t} show narrow X long shows gives F = numbered-table narrow (X .numbered)
+    (λ w ok. shows (run (leads column t) 0 w) (numbered-below (X .numbered) w ok) ∙ ap show (X .reaches w ok) ∙ gives w ok)
+    long (explored-rows X) F

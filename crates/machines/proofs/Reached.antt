@@ -22,7 +22,7 @@ decided b = ⊎-elim (λ e. inl e) (λ e. inr (both-ways b e)) (cases-bool b)
 pub crowded-stands : Crowded
 crowded-stands = record {
   nerode = λ f n ws firsts. crowded (nerode-congruence f .back) (nerode-congruence f .on);
-  decided = λ g R n ws firsts. crowded (R .back) (R .on);
+  decided = λ g back on n ws firsts. crowded back on;
   finite = λ g R. finite R (λ u v. decided (g u v));
 }
 

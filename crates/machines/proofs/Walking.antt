@@ -19,7 +19,7 @@ use Rattle.machines.proofs.Shortlex.{Lex, less-before}
 use Rattle.machines.proofs.Codes.{bytes-push, run-push}
 use Rattle.machines.proofs.Pieces.{runs-joined, traces-joined}
 use Rattle.machines.proofs.Places.{nth-at, nth-below, nth-one}
-use Rattle.machines.proofs.Nerode.{nerode-congruence, nerode-here}
+use Rattle.machines.proofs.Nerode.{nerode-congruence, nerode-here, run-same}
 
 -- a machine that gives f shows f of every front
 module _ (f : Word → ℕ) (go : ℕ → ℕ → ℕ) (show : ℕ → ℕ) (gives : Gives f go show) where
@@ -34,6 +34,13 @@ module _ (f : Word → ℕ) (go : ℕ → ℕ → ℕ) (show : ℕ → ℕ) (giv
 
   pub gives-pieces : (ws : List Word) → Bytes (joined ws) → traces go show 0 ws ≡ along f [] (joined ws)
   gives-pieces ws ok = traces-joined go show 0 ws ∙ gives-along [] (joined ws) tt ok
+
+-- a table in memory gives f, read in either way
+pub leads-gives : (f : Word → ℕ) (t : List ℕ) → Gives f (leads (λ b. b) t) (shown t) → Gives f (next t) (output t)
+leads-gives f t gives w ok =
+    or0-nth t (257 * run (next t) 0 w)
+    ∙ ap (shown t) (run-same (next t) (leads (λ b. b) t) (λ i b. or0-nth t (257 * i + (1 + b))) 0 w)
+    ∙ gives w ok
 
 -- row i is that of w's class
 abbrev pub At : (Word → Word → Type 0) → List Word → ℕ → Word → Type 0

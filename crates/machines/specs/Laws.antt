@@ -15,6 +15,7 @@
 --   Exact                          a table of f's classes shows f after every text, in any pieces, and its rows are the classes
 --   One-table                      an output function has one table at most: first words and numbers
 --   Least-table                    no table that is sound gives f with fewer rows, however they are numbered and wherever it begins
+--   Minimal-table                  a minimal machine in memory is that table: so it is the only one, and no machine has fewer rows
 --   Crowded                        n + 1 words of which no two are in one class are too many for n classes; where a test
 --                                  decides, there are either so many words or at most n classes
 --   Key-classes                    the keys of a system part the words into classes: a byte leads from class to class, there are
@@ -28,9 +29,10 @@ use Prim.Native.Nat.{ℕ, _+_, _*_, _<_, _≤_}
 use lib.ListN.{length}
 use Rattle.machines.specs.Words.{Word, Bytes, joined}
 use Rattle.machines.specs.Classes.{Classes, nth}
-use Rattle.machines.specs.Machines.{runs, traces}
+use Rattle.machines.specs.Machines.{run, runs, traces}
 use Rattle.machines.specs.Tables.{Sound-table, next, output, walk}
-use Rattle.machines.specs.Minimal.{Nerode}
+use Rattle.machines.specs.Columns.{leads, shown}
+use Rattle.machines.specs.Minimal.{Nerode, Closed, Minimal}
 use Rattle.machines.specs.Systems.{Key, reach, Pairwise, Explored}
 
 pub record Table-of (column : ℕ → ℕ) (E : Word → Word → Type 0) (f : Word → ℕ) (firsts : List Word) (t : List ℕ) : Type 0 where
@@ -88,10 +90,19 @@ abbrev pub Least-table : Type 0
 Least-table = (f : Word → ℕ) (firsts : List Word) (t : List ℕ) (k i : ℕ) → Classes (Nerode f) firsts → Sound-table k t → i < k
     → ((w : Word) → Bytes w → output t (walk t i w) ≡ f w) → length firsts ≤ k
 
+pub record Minimal-table : Type 0 where
+  pub table : (f : Word → ℕ) (k : ℕ) (t : List ℕ) → Minimal f k (leads (λ b. b) t) (shown t) → length t ≡ 257 * k
+      → (firsts : List Word) × (length firsts ≡ k) × Table-of (λ b. b) (Nerode f) f firsts t
+  pub one : (f : Word → ℕ) (j k : ℕ) (s t : List ℕ) → Minimal f j (leads (λ b. b) s) (shown s) → length s ≡ 257 * j
+      → Minimal f k (leads (λ b. b) t) (shown t) → length t ≡ 257 * k → (j ≡ k) × (s ≡ t)
+  pub least : (f : Word → ℕ) (k : ℕ) (next : ℕ → ℕ → ℕ) (output : ℕ → ℕ) → Minimal f k next output
+      → (n i : ℕ) (goes : ℕ → ℕ → ℕ) (shows : ℕ → ℕ) → Closed n goes → i < n → ((w : Word) → Bytes w → shows (run goes i w) ≡ f w) → k ≤ n
+
 pub record Crowded : Type 0 where
   pub nerode : (f : Word → ℕ) (n : ℕ) (ws firsts : List Word) → length ws ≡ n + 1 → Apart (Nerode f) ws
       → Classes (Nerode f) firsts → length firsts ≤ n → ⊥
-  pub decided : (g : Word → Word → Bool) → Congruence (Decided g) → (n : ℕ) (ws firsts : List Word) → length ws ≡ n + 1
+  pub decided : (g : Word → Word → Bool) → ((u v : Word) → Decided g u v → Decided g v u)
+      → ((u v w : Word) → Decided g u v → Decided g v w → Decided g u w) → (n : ℕ) (ws firsts : List Word) → length ws ≡ n + 1
       → Apart (Decided g) ws → Classes (Decided g) firsts → length firsts ≤ n → ⊥
   pub finite : (g : Word → Word → Bool) → Congruence (Decided g) → (n : ℕ) → At-most n (Decided g) ⊎ More-than n (Decided g)
 

@@ -1,5 +1,5 @@
 // What holds of every table and every system of keys, as contracts: a crate that calls one of these has the law.
-ghost use Rattle.machines.specs.Laws.{Exact, One-table, Least-table, Crowded, Key-classes};
+ghost use Rattle.machines.specs.Laws.{Exact, One-table, Least-table, Minimal-table, Crowded, Key-classes};
 
 // A table of f's classes shows f after every text, in any pieces, and its rows are the classes.
 pub fn exact_stands() -> u8
@@ -18,6 +18,13 @@ pub fn one_table_stands() -> u8
 // No table gives f with fewer rows than f has classes.
 pub fn least_table_stands() -> u8
     ensures { λ _. ⌜ Least-table ⌝ }
+{
+    0
+}
+
+// A minimal machine in memory is the one table of its function.
+pub fn minimal_table_stands() -> u8
+    ensures { λ _. ⌜ Minimal-table ⌝ }
 {
     0
 }
