@@ -13,3 +13,4 @@ pub mod Least
 pub mod Firsts
 pub mod Finite
 pub mod Reached
+pub mod Dead

@@ -8,3 +8,4 @@ pub mod Columns
 pub mod Minimal
 pub mod Systems
 pub mod Laws
+pub mod Dead

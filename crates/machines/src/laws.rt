@@ -1,4 +1,5 @@
 // What holds of every table and every system of keys, as contracts: a crate that calls one of these has the law.
+ghost use Rattle.machines.specs.Dead.{Dead-rows};
 ghost use Rattle.machines.specs.Laws.{Exact, One-table, Least-table, Minimal-table, Crowded, Key-classes};
 
 // A table of f's classes shows f after every text, in any pieces, and its rows are the classes.
@@ -25,6 +26,13 @@ pub fn least_table_stands() -> u8
 // A minimal machine in memory is the one table of its function.
 pub fn minimal_table_stands() -> u8
     ensures { λ _. ⌜ Minimal-table ⌝ }
+{
+    0
+}
+
+// In a minimal machine each row is live, with a word after which something is shown, or the one dead row.
+pub fn dead_rows_stand() -> u8
+    ensures { λ _. ⌜ Dead-rows ⌝ }
 {
     0
 }
