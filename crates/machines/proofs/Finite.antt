@@ -15,7 +15,7 @@ use Rattle.machines.specs.Classes.{Classes, nth}
 use Rattle.machines.specs.Minimal.{code}
 use Rattle.machines.specs.Laws.{Congruence, Apart, At-most, More-than}
 use Rattle.machines.proofs.Codes.{bytes-push, code-push, less-code, code-less}
-use Rattle.machines.proofs.Places.{none-some, nth-at, nth-below, nth-one, nth-front, nth-last, nth-push}
+use Rattle.machines.proofs.Places.{Pushed, none-some, nth-at, nth-below, nth-one, nth-front, nth-last, nth-push}
 
 -- a found word that is related to w and no later
 abbrev Known : (Word → Word → Type 0) → List Word → Word → Type 0
@@ -89,26 +89,26 @@ module _ {E : Word → Word → Type 0} {ws : List Word} {i b : ℕ} (R : Congru
       within : i < length ws
       within = nth-below ws i u at
 
-      order : (k l : ℕ) (x y : Word) → k < l → (nth ws k ≡ some x) ⊎ ((k ≡ length ws) × (w ≡ x)) → (nth ws l ≡ some y) ⊎ ((l ≡ length ws) × (w ≡ y)) → code 0 x < code 0 y
+      order : (k l : ℕ) (x y : Word) → k < l → Pushed ws w k x → Pushed ws w l y → code 0 x < code 0 y
       order k l x y s (inl m) (inl n) = S .order k l x y m n s
       order k l x y s (inl m) (inr n) = rw (← (n .1)) (omega (arith, coded, S .below u x k at m))
       order k l x y s (inr m) (inl n) = absurd (omega (arith, nth-below ws l y n))
       order k l x y s (inr m) (inr n) = absurd (omega arith)
 
-      differ : (k l : ℕ) (x y : Word) → k < l → (nth ws k ≡ some x) ⊎ ((k ≡ length ws) × (w ≡ x)) → (nth ws l ≡ some y) ⊎ ((l ≡ length ws) × (w ≡ y)) → E x y → ⊥
+      differ : (k l : ℕ) (x y : Word) → k < l → Pushed ws w k x → Pushed ws w l y → E x y → ⊥
       differ k l x y s (inl m) (inl n) e = S .apart .differ k l x y m n s e
       differ k l x y s (inl m) (inr n) e = fresh k x m (rw (n .1) e)
       differ k l x y s (inr m) (inl n) e = absurd (omega (arith, nth-below ws l y n))
       differ k l x y s (inr m) (inr n) e = absurd (omega arith)
 
-      known : (k d : ℕ) (x : Word) → d < 256 → (nth ws k ≡ some x) ⊎ ((k ≡ length ws) × (w ≡ x)) → (257 * k + d < 257 * i + b) ⊎ ((k ≡ i) × (d ≡ b)) → Known E (ws ++ w ∷ []) (x ++ d ∷ [])
+      known : (k d : ℕ) (x : Word) → d < 256 → Pushed ws w k x → (257 * k + d < 257 * i + b) ⊎ ((k ≡ i) × (d ≡ b)) → Known E (ws ++ w ∷ []) (x ++ d ∷ [])
       known k d x s (inl m) (inl o) = known-more E ws w (x ++ d ∷ []) (S .known k d x m s o)
       known k d x s (inl m) (inr (p, q)) = let same : x ≡ u = nth-one ws i x u (rw p at m) at in
           rw (same, q) (length ws, w, nth-last ws w, R .same w, omega arith)
       known k d x s (inr m) (inl o) = absurd (omega (arith, within))
       known k d x s (inr m) (inr o) = absurd (omega (arith, within))
 
-      below : (x y : Word) (k : ℕ) → (nth ws k ≡ some y) ⊎ ((k ≡ length ws) × (w ≡ y)) → x ≡ u → code 0 y < 256 * code 0 x + (1 + suc b)
+      below : (x y : Word) (k : ℕ) → Pushed ws w k y → x ≡ u → code 0 y < 256 * code 0 x + (1 + suc b)
       below x y k (inl n) e = omega (arith, ap (code 0) e, S .below u y k at n)
       below x y k (inr n) e = omega (arith, ap (code 0) e, ap (code 0) (n .1), coded)
 
@@ -157,13 +157,14 @@ module _ {E : Word → Word → Type 0} {ws : List Word} {i b : ℕ} (R : Congru
     all = λ w ok. let h = known-all w ok in (h .0, h .1, h .2, h .3);
   }
 
-module _ {E : Word → Word → Type 0} (R : Congruence E) (decide : (u v : Word) → E u v ⊎ (E u v → ⊥)) where
-  look : (ws : List Word) (w : Word) → ((l : ℕ) × (v : Word) × (nth ws l ≡ some v) × E v w) ⊎ ((l : ℕ) (v : Word) → nth ws l ≡ some v → E v w → ⊥)
-  look [] w = inr (λ l v m e. none-some v m)
-  look (x ∷ ws) w = ⊎-elim
+module _ {E : Word → Word → Type 0} (R : Congruence E) (decide : (u v : Word) → Bytes u → Bytes v → E u v ⊎ (E u v → ⊥)) where
+  look : (ws : List Word) (w : Word) → ((l : ℕ) (v : Word) → nth ws l ≡ some v → Bytes v) → Bytes w
+      → ((l : ℕ) × (v : Word) × (nth ws l ≡ some v) × E v w) ⊎ ((l : ℕ) (v : Word) → nth ws l ≡ some v → E v w → ⊥)
+  look [] w fine ok = inr (λ l v m e. none-some v m)
+  look (x ∷ ws) w fine ok = ⊎-elim
       (λ e. inl (0, x, refl, e))
-      (λ ne. ⊎-elim (λ (l, v, m, e). inl (suc l, v, m, e)) (λ far. inr (neither ne far)) (look ws w))
-      (decide x w)
+      (λ ne. ⊎-elim (λ (l, v, m, e). inl (suc l, v, m, e)) (λ far. inr (neither ne far)) (look ws w (λ l. fine (suc l)) ok))
+      (decide x w (fine 0 x refl) ok)
     where
       neither : (E x w → ⊥) → ((l : ℕ) (v : Word) → nth ws l ≡ some v → E v w → ⊥) → (l : ℕ) (v : Word) → nth (x ∷ ws) l ≡ some v → E v w → ⊥
       neither ne far zero v m e = let same : x ≡ v = cc in ne (rw same e)
@@ -185,7 +186,7 @@ module _ {E : Word → Word → Type 0} (R : Congruence E) (decide : (u v : Word
       (λ (room : length ws < n). search-on n fuel (ws ++ (u .0 ++ b ∷ []) ∷ []) i (suc b) more (omega arith) (omega arith) (omega arith) (omega arith))
       (λ (full : n ≤ length ws). inr (ws ++ (u .0 ++ b ∷ []) ∷ [], omega arith, more .apart))
       (cases-lt (length ws) n))
-      (look ws (u .0 ++ b ∷ [])))
+      (look ws (u .0 ++ b ∷ []) (S .apart .bytes) (bytes-push (u .0) b (S .apart .bytes i (u .0) (u .1)) small)))
       (λ (all : 256 ≤ b). let last : b ≡ 256 = omega arith in
       search-on n fuel ws (suc i) 0 (found-row here (rw last at S)) (omega arith) few (omega arith) (omega arith))
       (cases-lt b 256))

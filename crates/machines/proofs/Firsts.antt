@@ -15,11 +15,11 @@ use Rattle.machines.specs.Machines.{run}
 use Rattle.machines.specs.Columns.{leads, shown}
 use Rattle.machines.specs.Minimal.{code, Nerode, Gives, Closed, First, Numbered, Minimal}
 use Rattle.machines.specs.Systems.{Key, reach, Explored}
-use Rattle.machines.specs.Laws.{Table-of, Congruence, Same-key, Minimal-table}
+use Rattle.machines.specs.Laws.{Table-of, Congruence, Same-key}
 use Rattle.machines.proofs.Cells.{nth-getD}
 use Rattle.machines.proofs.Codes.{less-code, code-less, run-push, bytes-push}
 use Rattle.machines.proofs.Places.{nth-at, nth-below, listed}
-use Rattle.machines.proofs.Nerode.{nerode-congruence, gives-after, gives-row, run-below}
+use Rattle.machines.proofs.Nerode.{nerode-congruence, gives-like, gives-row, run-below}
 use Rattle.machines.proofs.Least.{least}
 use Rattle.machines.proofs.Unique.{one-table}
 use Rattle.machines.proofs.Walking.{Machine-of, at-row, machine-closed, machine-rows, machine-first}
@@ -62,13 +62,13 @@ module _ {k : ℕ} {go : ℕ → ℕ → ℕ} (N : Numbered k go) where
 module _ {f : Word → ℕ} {k : ℕ} {go : ℕ → ℕ → ℕ} {show : ℕ → ℕ} (M : Minimal f k go show) where
   -- two words lead to one row exactly if f does not tell them apart
   pub minimal-rows : (u v : Word) → Bytes u → Bytes v → (run go 0 u ≡ run go 0 v) ↔ Nerode f u v
-  minimal-rows u v a b = (gives-row f go show (M .gives) u v a b, from)
+  minimal-rows u v a b = (gives-row f go show 0 (M .gives) u v a b, from)
     where
       from : Nerode f u v → run go 0 u ≡ run go 0 v
       from e = ⊎-elim (λ (h : run go 0 u ≡ run go 0 v). h)
           (λ (ne : run go 0 u ≡ run go 0 v → ⊥).
           let w = M .told (run go 0 u) (run go 0 v) (numbered-below (M .numbered) u a) (numbered-below (M .numbered) v b) ne in
-          absurd (w .2 (gives-after f go show (M .gives) u (w .0) a (w .1) ∙ e (w .0) (w .1) ∙ sym (gives-after f go show (M .gives) v (w .0) b (w .1)))))
+          absurd (w .2 (gives-like f go show 0 (M .gives) u v a b .1 e (w .0) (w .1))))
           (cases-eq (run go 0 u) (run go 0 v))
 
   pub minimal-classes : {firsts : List Word} → Firsts k go firsts → Classes (Nerode f) firsts
@@ -126,13 +126,6 @@ minimal-one {f = f} {s = s} {t = t} M p N q =
     let b = minimal-has-table N q in
     let e = one-table (nerode-congruence f .back) (nerode-congruence f .on) (a .0) (b .0) s t (a .2) (b .2) in
     (sym (a .1) ∙ ap length (e .0) ∙ b .1, e .1)
-
-pub minimal-table-stands : Minimal-table
-minimal-table-stands = record {
-  table = λ f k t. minimal-has-table;
-  one = λ f j k s t. minimal-one;
-  least = λ f k next output M n i goes shows. minimal-least M goes shows n i;
-}
 
 -- a machine with a row for each class is numbered by first words
 module _ {E : Word → Word → Type 0} {f : Word → ℕ} {firsts : List Word} {go : ℕ → ℕ → ℕ} {show : ℕ → ℕ} (R : Congruence E) (M : Machine-of E f firsts go show) where

@@ -14,3 +14,4 @@ pub mod Firsts
 pub mod Finite
 pub mod Reached
 pub mod Dead
+pub mod Existing

@@ -1,12 +1,13 @@
 -- What f tells apart is a congruence, and the coarsest that agrees with f; what the rows of a machine and the keys of a
 -- system tell apart. Assumes nothing.
 use mathlib.Core.Path.{_≡_, refl, sym, ap, _∙_}
+use mathlib.Core.Logic.{_↔_}
 use mathlib.Core.List.{[], _∷_, _++_}
 use Prim.Native.Nat.{ℕ, _<_}
 use Rattle.std.proofs.shelf.Lists.{append-assoc, append-nil}
 use Rattle.machines.specs.Words.{Word, Bytes}
 use Rattle.machines.specs.Machines.{run}
-use Rattle.machines.specs.Minimal.{Nerode, Gives, Closed}
+use Rattle.machines.specs.Minimal.{Nerode, Like, Closed}
 use Rattle.machines.specs.Systems.{Key}
 use Rattle.machines.specs.Laws.{Congruence, Same-key}
 use Rattle.machines.proofs.Codes.{bytes-append, reach-push}
@@ -36,13 +37,19 @@ module _ {E : Word → Word → Type 0} (R : Congruence E) where
   pub congruence-nerode : (f : Word → ℕ) → ((u v : Word) → E u v → f u ≡ f v) → (u v : Word) → E u v → Nerode f u v
   congruence-nerode f here u v e x ok = here (u ++ x) (v ++ x) (congruence-append u v x ok e)
 
--- a machine that gives f: what f is after more bytes depends on the row alone
-module _ (f : Word → ℕ) (next : ℕ → ℕ → ℕ) (output : ℕ → ℕ) (gives : Gives f next output) where
-  pub gives-after : (u x : Word) → Bytes u → Bytes x → output (run next (run next 0 u) x) ≡ f (u ++ x)
-  gives-after u x a b = ap output (sym (run-append next 0 u x)) ∙ gives (u ++ x) (bytes-append u x a b)
+-- a machine that gives f from row i: what f is after more bytes depends on the row alone
+module _ (f : Word → ℕ) (next : ℕ → ℕ → ℕ) (output : ℕ → ℕ) (i : ℕ) (gives : (w : Word) → Bytes w → output (run next i w) ≡ f w) where
+  pub gives-after : (u x : Word) → Bytes u → Bytes x → output (run next (run next i u) x) ≡ f (u ++ x)
+  gives-after u x a b = ap output (sym (run-append next i u x)) ∙ gives (u ++ x) (bytes-append u x a b)
 
-  pub gives-row : (u v : Word) → Bytes u → Bytes v → run next 0 u ≡ run next 0 v → Nerode f u v
-  gives-row u v a b e x ok = sym (gives-after u x a ok) ∙ ap (λ i. output (run next i x)) e ∙ gives-after v x b ok
+  pub gives-like : (u v : Word) → Bytes u → Bytes v → Like next output (run next i u) (run next i v) ↔ Nerode f u v
+  gives-like u v a b = (
+    (λ e x ok. sym (gives-after u x a ok) ∙ e x ok ∙ gives-after v x b ok),
+    (λ e x ok. gives-after u x a ok ∙ e x ok ∙ sym (gives-after v x b ok)),
+  )
+
+  pub gives-row : (u v : Word) → Bytes u → Bytes v → run next i u ≡ run next i v → Nerode f u v
+  gives-row u v a b e = gives-like u v a b .0 (λ x ok. ap (λ j. output (run next j x)) e)
 
 pub run-below : (k : ℕ) (next : ℕ → ℕ → ℕ) → Closed k next → (i : ℕ) (w : Word) → i < k → Bytes w → run next i w < k
 run-below k next s i [] l w = l

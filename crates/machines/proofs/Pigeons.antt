@@ -43,6 +43,10 @@ pigeons (suc n) (suc m) R put apart = omega (arith, pigeons n m R′ put′ apar
     apart′ i k j l s (inr a) (inl b) = apart k m (last .0) (omega arith) (omega arith) (rw (a .1) at (b .0)) (last .2)
     apart′ i k j l s (inr a) (inr b) = apart i k n l (omega arith) (a .0) (b .0)
 
+-- the first words of classes are such
+pub classes-apart : {E : Word → Word → Type 0} {firsts : List Word} → Classes E firsts → Apart E firsts
+classes-apart c = record { bytes = c .bytes; differ = λ i j u v m n l e. omega (arith, c .differ i j u v m n e) }
+
 -- words of which no two are related are at most as many as the classes
 pub few-classes : {E : Word → Word → Type 0} {firsts ws : List Word} → ((u v : Word) → E u v → E v u)
     → ((u v w : Word) → E u v → E v w → E u w) → Classes E firsts → Apart E ws → length ws ≤ length firsts

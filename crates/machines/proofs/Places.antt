@@ -14,6 +14,10 @@ none-some x e = let z : _≡_ {A = ℕ} 0 1 = cc in omega arith
 pub some-same : {A : Type 0} {x y : A} → some x ≡ some y → x ≡ y
 some-same e = cc
 
+-- x stands at place i of xs, or is the y behind it
+abbrev pub Pushed : {A : Type 0} → List A → A → ℕ → A → Type 0
+Pushed xs y i x = (nth xs i ≡ some x) ⊎ ((i ≡ length xs) × (y ≡ x))
+
 module _ {A : Type 0} where
   pub nth-at : (xs : List A) (i : ℕ) → i < length xs → (x : A) × (nth xs i ≡ some x)
   nth-at [] i l = absurd (omega arith)
@@ -66,7 +70,7 @@ module _ {A : Type 0} where
   nth-last [] y = refl
   nth-last (x ∷ xs) y = nth-last xs y
 
-  pub nth-push : (xs : List A) (y : A) (i : ℕ) (x : A) → nth (xs ++ y ∷ []) i ≡ some x → (nth xs i ≡ some x) ⊎ ((i ≡ length xs) × (y ≡ x))
+  pub nth-push : (xs : List A) (y : A) (i : ℕ) (x : A) → nth (xs ++ y ∷ []) i ≡ some x → Pushed xs y i x
   nth-push [] y zero x e = inr (refl, cc)
   nth-push [] y (suc i) x e = absurd (none-some x e)
   nth-push (z ∷ xs) y zero x e = inl e

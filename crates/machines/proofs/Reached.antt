@@ -23,7 +23,7 @@ pub crowded-stands : Crowded
 crowded-stands = record {
   nerode = λ f n ws firsts. crowded (nerode-congruence f .back) (nerode-congruence f .on);
   decided = λ g back on n ws firsts. crowded back on;
-  finite = λ g R. finite R (λ u v. decided (g u v));
+  finite = λ g R. finite R (λ u v a b. decided (g u v));
 }
 
 key-same : (a b : Key) → (a ≡ b) ⊎ (a ≡ b → ⊥)
@@ -44,7 +44,7 @@ module _ (next : Key → ℕ → Key) (s : Key) where
   }
 
   keys-finite : (n : ℕ) → At-most n (Same-key next s) ⊎ More-than n (Same-key next s)
-  keys-finite = finite (key-congruence next s) (λ u v. key-same (reach next s u) (reach next s v))
+  keys-finite = finite (key-congruence next s) (λ u v a b. key-same (reach next s u) (reach next s v))
 
   pub few-keys : (ks : List Key) → Among next s ks → At-most (length ks) (Same-key next s)
   few-keys ks among = ⊎-elim (λ few. few) (λ (ws, long, apart). absurd (omega (arith, among-few ks among apart))) (keys-finite (length ks))

@@ -15,7 +15,9 @@
 --   Exact                          a table of f's classes shows f after every text, in any pieces, and its rows are the classes
 --   One-table                      an output function has one table at most: first words and numbers
 --   Least-table                    no table that is sound gives f with fewer rows, however they are numbered and wherever it begins
---   Minimal-table                  a minimal machine in memory is that table: so it is the only one, and no machine has fewer rows
+--   Has-table                      an output function that some sound table gives has its table, with no more rows
+--   Minimal-table                  a minimal machine in memory is that table, and the other way round: so it is the only one, and no
+--                                  machine that gives f has fewer rows
 --   Crowded                        n + 1 words of which no two are in one class are too many for n classes; where a test
 --                                  decides, there are either so many words or at most n classes
 --   Key-classes                    the keys of a system part the words into classes: a byte leads from class to class, there are
@@ -90,9 +92,15 @@ abbrev pub Least-table : Type 0
 Least-table = (f : Word → ℕ) (firsts : List Word) (t : List ℕ) (k i : ℕ) → Classes (Nerode f) firsts → Sound-table k t → i < k
     → ((w : Word) → Bytes w → output t (walk t i w) ≡ f w) → length firsts ≤ k
 
+abbrev pub Has-table : Type 0
+Has-table = (f : Word → ℕ) (t : List ℕ) (k i : ℕ) → Sound-table k t → i < k → ((w : Word) → Bytes w → output t (walk t i w) ≡ f w)
+    → (firsts : List Word) × (s : List ℕ) × Table-of (λ b. b) (Nerode f) f firsts s × (length firsts ≤ k)
+
 pub record Minimal-table : Type 0 where
   pub table : (f : Word → ℕ) (k : ℕ) (t : List ℕ) → Minimal f k (leads (λ b. b) t) (shown t) → length t ≡ 257 * k
       → (firsts : List Word) × (length firsts ≡ k) × Table-of (λ b. b) (Nerode f) f firsts t
+  pub back : (f : Word → ℕ) (firsts : List Word) (t : List ℕ) → Table-of (λ b. b) (Nerode f) f firsts t
+      → Minimal f (length firsts) (leads (λ b. b) t) (shown t)
   pub one : (f : Word → ℕ) (j k : ℕ) (s t : List ℕ) → Minimal f j (leads (λ b. b) s) (shown s) → length s ≡ 257 * j
       → Minimal f k (leads (λ b. b) t) (shown t) → length t ≡ 257 * k → (j ≡ k) × (s ≡ t)
   pub least : (f : Word → ℕ) (k : ℕ) (next : ℕ → ℕ → ℕ) (output : ℕ → ℕ) → Minimal f k next output

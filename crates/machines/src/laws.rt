@@ -1,6 +1,6 @@
 // What holds of every table and every system of keys, as contracts: a crate that calls one of these has the law.
 ghost use Rattle.machines.specs.Dead.{Dead-rows};
-ghost use Rattle.machines.specs.Laws.{Exact, One-table, Least-table, Minimal-table, Crowded, Key-classes};
+ghost use Rattle.machines.specs.Laws.{Exact, One-table, Least-table, Has-table, Minimal-table, Crowded, Key-classes};
 
 // A table of f's classes shows f after every text, in any pieces, and its rows are the classes.
 pub fn exact_stands() -> u8
@@ -19,6 +19,13 @@ pub fn one_table_stands() -> u8
 // No table gives f with fewer rows than f has classes.
 pub fn least_table_stands() -> u8
     ensures { λ _. ⌜ Least-table ⌝ }
+{
+    0
+}
+
+// An output function that some sound table gives has its table.
+pub fn has_table_stands() -> u8
+    ensures { λ _. ⌜ Has-table ⌝ }
 {
     0
 }

@@ -1,4 +1,4 @@
-use Rattle.machines.proofs.Firsts.{minimal-table-stands}
+use Rattle.machines.proofs.Existing.{minimal-table-stands}
 use Rattle.machines.proofs.laws.minimal_table_stands.Needs as need
 
 pub returns : need.returns
