@@ -170,30 +170,58 @@ module _ {E : Word → Word → Type 0} (R : Congruence E) (decide : (u v : Word
       neither ne far zero v m e = let same : x ≡ v = cc in ne (rw same e)
       neither ne far (suc l) v m e = far l v m e
 
-  search-on : (n fuel : ℕ) (ws : List Word) (i b : ℕ) → Found E ws i b → i ≤ length ws → length ws ≤ n → b ≤ 256 → 257 * (n - i) + (256 - b) < fuel
-      → At-most n E ⊎ More-than n E
-  search-on n zero ws i b S inside few byte enough = absurd (omega arith)
-  search-on n (suc fuel) ws i b S inside few byte enough = ⊎-elim
-      (λ (here : i < length ws). ⊎-elim
-      (λ (small : b < 256).
-      let u = nth-at ws i here in
-      ⊎-elim
-      (λ (l, v, m, e). search-on n fuel ws i (suc b) (found-old R (u .0) (u .1) small S l v m e) inside few (omega arith) (omega arith))
-      (λ fresh.
-      let more = found-new R (u .0) (u .1) small S fresh in
-      let long = length-push ws (u .0 ++ b ∷ []) in
-      ⊎-elim
-      (λ (room : length ws < n). search-on n fuel (ws ++ (u .0 ++ b ∷ []) ∷ []) i (suc b) more (omega arith) (omega arith) (omega arith) (omega arith))
-      (λ (full : n ≤ length ws). inr (ws ++ (u .0 ++ b ∷ []) ∷ [], omega arith, more .apart))
-      (cases-lt (length ws) n))
-      (look ws (u .0 ++ b ∷ []) (S .apart .bytes) (bytes-push (u .0) b (S .apart .bytes i (u .0) (u .1)) small)))
-      (λ (all : 256 ≤ b). let last : b ≡ 256 = omega arith in
-      search-on n fuel ws (suc i) 0 (found-row here (rw last at S)) (omega arith) few (omega arith) (omega arith))
-      (cases-lt b 256))
-      (λ (done : length ws ≤ i). inl (ws, found-all R done S, few))
+  -- a search among at most n words, and one that has less left to do
+  record Search (n : ℕ) (ws : List Word) (i b : ℕ) : Type 0 where
+    found : Found E ws i b
+    inside : i ≤ length ws
+    few : length ws ≤ n
+    byte : b ≤ 256
+
+  abbrev On : ℕ → ℕ → Type 0
+  On n left = (ws : List Word) × (i : ℕ) × (b : ℕ) × Search n ws i b × (257 * (n - i) + (256 - b) < left)
+
+  module _ {n : ℕ} {ws : List Word} {i b : ℕ} (S : Search n ws i b) (here : i < length ws) where
+    -- one more byte at word i
+    byte-turn : b < 256 → On n (257 * (n - i) + (256 - b)) ⊎ More-than n E
+    byte-turn small = ⊎-elim old new (look ws w (S .found .apart .bytes) (bytes-push u b (S .found .apart .bytes i u at) small))
+      where
+        u : Word
+        u = nth-at ws i here .0
+
+        at : nth ws i ≡ some u
+        at = nth-at ws i here .1
+
+        w : Word
+        w = u ++ b ∷ []
+
+        old : (l : ℕ) × (v : Word) × (nth ws l ≡ some v) × E v w → On n (257 * (n - i) + (256 - b)) ⊎ More-than n E
+        old (l, v, m, e) = inl (ws, i, suc b, record { found = found-old R u at small (S .found) l v m e; inside = S .inside; few = S .few; byte = omega arith }, omega arith)
+
+        new : ((l : ℕ) (v : Word) → nth ws l ≡ some v → E v w → ⊥) → On n (257 * (n - i) + (256 - b)) ⊎ More-than n E
+        new fresh =
+            let more = found-new R u at small (S .found) fresh in
+            let long = length-push ws w in
+            ⊎-elim
+            (λ (room : length ws < n). inl (ws ++ w ∷ [], i, suc b, record { found = more; inside = omega arith; few = omega arith; byte = omega arith }, omega arith))
+            (λ (full : n ≤ length ws). inr (ws ++ w ∷ [], omega (arith, S .few), more .apart))
+            (cases-lt (length ws) n)
+
+    -- the next word
+    row-turn : b ≡ 256 → On n (257 * (n - i) + (256 - b))
+    row-turn last =
+        (ws, suc i, 0, record { found = found-row here (rw last at (S .found)); inside = omega arith; few = S .few; byte = omega arith }, omega arith)
+
+    turn : On n (257 * (n - i) + (256 - b)) ⊎ More-than n E
+    turn = ⊎-elim byte-turn (λ (all : 256 ≤ b). inl (row-turn (omega (arith, S .byte)))) (cases-lt b 256)
+
+  search-on : (n fuel : ℕ) {ws : List Word} {i b : ℕ} → Search n ws i b → 257 * (n - i) + (256 - b) < fuel → At-most n E ⊎ More-than n E
+  search-on n zero S enough = absurd (omega arith)
+  search-on n (suc fuel) {ws = ws} {i = i} S enough = ⊎-elim
+      (λ (here : i < length ws). ⊎-elim (λ (vs, j, d, T, less). search-on n fuel T (omega arith)) (λ many. inr many) (turn S here))
+      (λ (done : length ws ≤ i). inl (ws, found-all R done (S .found), S .few))
       (cases-lt i (length ws))
 
   -- what can be decided has at most n classes, or there are n + 1 words of which no two are related
   pub finite : (n : ℕ) → At-most n E ⊎ More-than n E
   finite zero = inr ([] ∷ [], refl, found-start E .apart)
-  finite (suc n) = search-on (suc n) (257 * suc n + 257) ([] ∷ []) 0 0 (found-start E) (omega arith) (omega arith) (omega arith) (omega arith)
+  finite (suc n) = search-on (suc n) (257 * suc n + 257) (record { found = found-start E; inside = omega arith; few = omega arith; byte = omega arith }) (omega arith)
