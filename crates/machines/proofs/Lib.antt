@@ -1,4 +1,17 @@
 pub mod Shortlex
+pub mod Codes
 pub mod Cells
 pub mod Pieces
 pub mod Feeding
+pub mod Places
+pub mod Pigeons
+pub mod Nerode
+pub mod Relating
+pub mod Unique
+pub mod Walking
+pub mod Least
+pub mod Firsts
+pub mod Finite
+pub mod Reached
+pub mod Dead
+pub mod Existing

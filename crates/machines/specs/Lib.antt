@@ -4,3 +4,8 @@ pub mod Classes
 pub mod Machines
 pub mod Tables
 pub mod Pieces
+pub mod Columns
+pub mod Minimal
+pub mod Systems
+pub mod Laws
+pub mod Dead
