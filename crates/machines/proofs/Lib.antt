@@ -3,3 +3,6 @@ pub mod Codes
 pub mod Cells
 pub mod Pieces
 pub mod Feeding
+pub mod Products
+pub mod Puts
+pub mod Buckets

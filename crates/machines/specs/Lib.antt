@@ -7,3 +7,5 @@ pub mod Pieces
 pub mod Columns
 pub mod Minimal
 pub mod Systems
+pub mod Keys
+pub mod Hashed

@@ -1,4 +1,6 @@
 // Words and tables as such: what this crate proves knows nothing of patterns.
+pub mod index;
+pub mod keys;
 pub mod order;
 pub mod stream;
 pub mod system;
