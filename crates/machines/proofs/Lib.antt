@@ -6,3 +6,5 @@ pub mod Feeding
 pub mod Products
 pub mod Puts
 pub mod Buckets
+pub mod Steps
+pub mod Settling

@@ -9,3 +9,4 @@ pub mod Minimal
 pub mod Systems
 pub mod Keys
 pub mod Hashed
+pub mod Exploring

@@ -1,4 +1,5 @@
 // Words and tables as such: what this crate proves knows nothing of patterns.
+pub mod explore;
 pub mod index;
 pub mod keys;
 pub mod order;
