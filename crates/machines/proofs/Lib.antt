@@ -8,3 +8,5 @@ pub mod Puts
 pub mod Buckets
 pub mod Steps
 pub mod Settling
+pub mod Explored
+pub mod Paired

@@ -66,20 +66,21 @@ module _ {f : Key → ℕ → Key} {s : Key} {shows : Key → ℕ} {column least
         }
 
   -- from the start, and to the end
-  pub on-begun : {n : ℕ} {ks t : List ℕ} → keyAt ks n 0 ≡ s → On f s shows least count n 1 0 0 0 ks t
-  on-begun {n} {ks} {t} e = record { words = [] ∷ []; partly = begun f s columns (keyAt ks n) t e; says = λ i m. absurd (omega arith) }
+  pub on-begun : {n row : ℕ} {ks t : List ℕ} → 0 ≡ row → keyAt ks n row ≡ s → On f s shows least count n 1 row 0 row ks t
+  on-begun {n} {row} {ks} {t} z e = subst (λ r. On f s shows least count n 1 r 0 r ks t) z
+      (record { words = [] ∷ []; partly = begun f s columns (keyAt ks n) t (ap (keyAt ks n) z ∙ e); says = λ i m. absurd (omega arith) })
 
-  pub on-ended : {good : Key → Type 0} {m n k row most : ℕ} {ks t : List ℕ} → Lawful s f good m column least → On f s shows least count n k row 0 row ks t → row ≡ k → k ≤ most → Complete f s shows column count n most k ks t
-  on-ended {n = n} {k = k} {row = row} {ks = ks} {t = t} lawful on e few = record {
+  pub on-ended : {good : Key → Type 0} {m n k row most : ℕ} {ks t : List ℕ} → Lawful s f good m column least → On f s shows least count n k row 0 row ks t → row ≡ k → k ≤ most → 257 * most ≤ length t → Complete f s shows column count n most k ks t
+  on-ended {n = n} {k = k} {row = row} {ks = ks} {t = t} lawful on e few long = record {
     few = few;
+    inside = record { few = columns .few; some = p .some; long = omega arith; cells = λ i h j m. all-found f s columns lawful k (keyAt ks n) t (on .words) p i j h m .within };
     explored = ended f s columns lawful k (keyAt ks n) t (on .words) p;
     shows-keys = λ i h. on .says i (omega arith) ∙ ap shows (sym (on .partly .keyed i h));
-    within = λ i c h m. all-found f s columns lawful k (keyAt ks n) t (on .words) p i c h m .within;
   }
     where
       p : Partly f s least count k k 0 (keyAt ks n) t (on .words)
       p = subst (λ z. Partly f s least count k z 0 (keyAt ks n) t (on .words)) e (on .partly)
 
 -- even the first key needs room
-pub none-fits : (f : Key → ℕ → Key) (s : Key) {column least : ℕ → ℕ} {count : ℕ} → Columns count column least → Too-many f s 0
-none-fits f s columns = ([] ∷ [], begun f s columns (λ _. s) [] refl .apart)
+pub none-fits : (f : Key → ℕ → Key) (s : Key) {column least : ℕ → ℕ} {count most : ℕ} → Columns count column least → 0 ≡ most → Too-many f s most
+none-fits f s columns e = ([] ∷ [], subst (λ z. Pairwise f s (z + 1) ([] ∷ [])) e (begun f s columns (λ _. s) [] refl .apart))

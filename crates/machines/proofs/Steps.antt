@@ -14,7 +14,7 @@ use Rattle.machines.specs.Machines.{run}
 use Rattle.machines.specs.Columns.{Columns, cell, leads}
 use Rattle.machines.specs.Minimal.{code, First, Numbered}
 use Rattle.machines.specs.Systems.{Key, reach, Lawful, Pairwise, Explored}
-use Rattle.machines.specs.Exploring.{wordAt, Found, Partly}
+use Rattle.machines.specs.Exploring.{wordAt, Led, Partly}
 use Rattle.machines.proofs.Codes.{reach-push, code-push, bytes-push}
 
 -- what a cell holds after one is written
@@ -68,8 +68,8 @@ module _ (f : Key → ℕ → Key) (s : Key) {column least : ℕ → ℕ} {count
       order = p .order;
       below = λ b l. p .below b (λ j m. l j (omega arith));
       found = λ i j hi hj m. ⊎-elim
-          (λ q. subst (Found f s least k ws i j) (q .1) (p .found i j hi hj (q .0)))
-          (λ q. subst (Found f s least k ws i j) (q .2) (record {
+          (λ q. subst (Led f s least k ws i j) (q .1) (p .found i j hi hj (q .0)))
+          (λ q. subst (Led f s least k ws i j) (q .2) (record {
             within = h;
             same = sym (p .keyed to h) ∙ e ∙ ap (λ x. f x (least c)) (p .keyed row in-row) ∙ ap (λ z. f (reach f s (wordAt ws z)) (least c)) (sym (q .0)) ∙ ap (λ z. f (reach f s (wordAt ws i)) (least z)) (sym (q .1));
             early = subst (λ z. code 0 (wordAt ws to) ≤ 256 * code 0 (wordAt ws z) + (1 + least j)) (sym (q .0)) (omega (arith, under to h, ap least (q .1)));
@@ -137,8 +137,8 @@ module _ (f : Key → ℕ → Key) (s : Key) {column least : ℕ → ℕ} {count
             (λ i h. omega (arith, p .below b (λ j m. l j (omega arith)) i h in-row, old-code i h, old-code row in-row))
             (omega (arith, new-code, old-code row in-row, l c (omega arith))) i h;
         found = λ i j hi hj m. ⊎-elim
-            (λ q. subst (Found f s least (k + 1) more i j) (q .1) (kept-found i j (cell t i j) (omega arith) (p .found i j (omega arith) hj (q .0))))
-            (λ q. subst (Found f s least (k + 1) more i j) (q .2) (record {
+            (λ q. subst (Led f s least (k + 1) more i j) (q .1) (kept-found i j (cell t i j) (omega arith) (p .found i j (omega arith) hj (q .0))))
+            (λ q. subst (Led f s least (k + 1) more i j) (q .2) (record {
               within = omega arith;
               same = new-reach ∙ ap (λ x. f x (least c)) (sym (old-reach row in-row)) ∙ ap (λ z. f (reach f s (wordAt more z)) (least c)) (sym (q .0)) ∙ ap (λ z. f (reach f s (wordAt more i)) (least z)) (sym (q .1));
               early = subst (λ z. code 0 (wordAt more k) ≤ 256 * code 0 (wordAt more z) + (1 + least j)) (sym (q .0)) (omega (arith, new-code, old-code row in-row, ap least (q .1)));
@@ -146,7 +146,7 @@ module _ (f : Key → ℕ → Key) (s : Key) {column least : ℕ → ℕ} {count
             (cell-after t row c k i j w (omega (arith, columns .few)) (omega (arith, columns .few)) m);
       }
         where
-          kept-found : (i c j : ℕ) → i < k → Found f s least k ws i c j → Found f s least (k + 1) more i c j
+          kept-found : (i c j : ℕ) → i < k → Led f s least k ws i c j → Led f s least (k + 1) more i c j
           kept-found i c j h q = record {
             within = omega (arith, q .within);
             same = old-reach j (q .within) ∙ q .same ∙ ap (λ x. f x (least c)) (sym (old-reach i h));
@@ -174,7 +174,7 @@ module _ (f : Key → ℕ → Key) (s : Key) {column least : ℕ → ℕ} {count
     keyed = p .keyed;
     order = p .order;
     below = p .below;
-    found = λ i j hi hj m. subst (Found f s least k ws i j) (h i j hj) (p .found i j hi hj m);
+    found = λ i j hi hj m. subst (Led f s least k ws i j) (h i j hj) (p .found i j hi hj m);
   }
 
   -- the row is done
@@ -191,7 +191,7 @@ module _ (f : Key → ℕ → Key) (s : Key) {column least : ℕ → ℕ} {count
 
   -- all rows are done
   module _ {good : Key → Type 0} {n : ℕ} (lawful : Lawful s f good n column least) (k : ℕ) (key : ℕ → Key) (t : List ℕ) (ws : List Word) (p : Partly f s least count k k 0 key t ws) where
-    pub all-found : (i c : ℕ) → i < k → c < count → Found f s least k ws i c (cell t i c)
+    pub all-found : (i c : ℕ) → i < k → c < count → Led f s least k ws i c (cell t i c)
     all-found i c h m = p .found i c h m (omega arith)
 
     -- a byte leads where its column's least byte leads, and that is no later

@@ -1,6 +1,6 @@
 -- What an exploration of a system has found, on the way and at its end. Assumes nothing.
 --   wordAt ws i          the word that key i was found by
---   Found                row j is where column c leads from row i, and its word is no later than that of row i with the column's
+--   Led                  row j is where column c leads from row i, and its word is no later than that of row i with the column's
 --                        least byte behind it
 --   Partly               k keys are found, and the columns below c of this row and all columns of the rows before it are read
 --   On                   the same of keys and a table in memory, for some words, where the rows below done show what their keys show
@@ -15,6 +15,7 @@ use Rattle.std.specs.declared.option.Option.{Option}
 use Rattle.std.specs.declared.option.Option.the-variants.{Some, None}
 use Rattle.machines.specs.Words.{Word}
 use Rattle.machines.specs.Columns.{cell, shown, leads}
+use Rattle.machines.specs.Inside.{Inside}
 use Rattle.machines.specs.Minimal.{code}
 use Rattle.machines.specs.Systems.{Key, reach, Pairwise, Explored}
 use Rattle.machines.specs.Keys.{keyAt}
@@ -23,7 +24,7 @@ use Rattle.machines.specs.Hashed.{Indexed}
 abbrev pub wordAt : List Word → ℕ → Word
 wordAt ws i = getD ws i []
 
-pub record Found (next : Key → ℕ → Key) (s : Key) (least : ℕ → ℕ) (k : ℕ) (ws : List Word) (i c j : ℕ) : Type 0 where
+pub record Led (next : Key → ℕ → Key) (s : Key) (least : ℕ → ℕ) (k : ℕ) (ws : List Word) (i c j : ℕ) : Type 0 where
   pub within : j < k
   pub same : reach next s (wordAt ws j) ≡ next (reach next s (wordAt ws i)) (least c)
   pub early : code 0 (wordAt ws j) ≤ 256 * code 0 (wordAt ws i) + (1 + least c)
@@ -36,7 +37,7 @@ pub record Partly (next : Key → ℕ → Key) (s : Key) (least : ℕ → ℕ) (
   pub order : (i j : ℕ) → i < j → j < k → code 0 (wordAt ws i) < code 0 (wordAt ws j)
   -- every word found so far comes before this row's word with any later byte behind it
   pub below : (b : ℕ) → ((j : ℕ) → j < c → least j < b) → (i : ℕ) → i < k → row < k → code 0 (wordAt ws i) < 256 * code 0 (wordAt ws row) + (1 + b)
-  pub found : (i j : ℕ) → i < k → j < count → 257 * i + j < 257 * row + c → Found next s least k ws i j (cell t i j)
+  pub found : (i j : ℕ) → i < k → j < count → 257 * i + j < 257 * row + c → Led next s least k ws i j (cell t i j)
 
 pub record On (next : Key → ℕ → Key) (s : Key) (shows : Key → ℕ) (least : ℕ → ℕ) (count n k row c done : ℕ) (ks t : List ℕ) : Type 0 where
   pub words : List Word
@@ -48,9 +49,9 @@ Too-many next s most = (ws : List Word) × Pairwise next s (most + 1) ws
 
 pub record Complete (next : Key → ℕ → Key) (s : Key) (shows : Key → ℕ) (column : ℕ → ℕ) (count n most k : ℕ) (ks t : List ℕ) : Type 0 where
   pub few : k ≤ most
+  pub inside : Inside count k t
   pub explored : Explored next s k (keyAt ks n) (leads column t)
   pub shows-keys : (i : ℕ) → i < k → shown t i ≡ shows (keyAt ks n i)
-  pub within : (i c : ℕ) → i < k → c < count → cell t i c < k
 
 pub record Row-done (next : Key → ℕ → Key) (s : Key) (shows : Key → ℕ) (least : ℕ → ℕ) (count n most row k : ℕ) (ks t heads links : List ℕ) : Type 0 where
   pub few : k ≤ most

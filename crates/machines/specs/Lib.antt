@@ -7,6 +7,8 @@ pub mod Pieces
 pub mod Columns
 pub mod Minimal
 pub mod Systems
+pub mod Inside
 pub mod Keys
 pub mod Hashed
 pub mod Exploring
+pub mod Pairs

@@ -3,6 +3,7 @@ pub mod explore;
 pub mod index;
 pub mod keys;
 pub mod order;
+pub mod pairs;
 pub mod stream;
 pub mod system;
 pub mod table;

@@ -24,29 +24,23 @@ settle-requires g c κs =
     }
 
 pub returns-in-rest : need.returns-in-rest
-returns-in-rest g c =
-    let f = g .S·System .next (c .args .sys .now) in
-    let s = g .S·System .begin (c .args .sys .now) in
-    record { says = subst (Too-many f s) (c .in-rest .ensures tt .settled .0) (none-fits f s (c .columns-columns .ensures .columns)); rest = refl }
+returns-in-rest g c = record {
+  says = none-fits (g .S·System .next (c .args .sys .now)) (g .S·System .begin (c .args .sys .now)) (c .columns-columns .ensures .columns) (c .in-rest .ensures tt .settled .0);
+  rest = refl;
+}
 
 pub loop-row-holds : need.loop-row-holds
 loop-row-holds g c =
     let q = c .in-Some .ensures tt in
     let z : 0 ≡ c .in-Some .first .0 = omega (arith, q .settled .within) in
-    let columns = subst (λ n. Columns n (g .S·System .column (c .args .sys .now)) (g .S·System .least (c .args .sys .now))) (sym (c .columns-columns .ensures .is)) (c .columns-columns .ensures .columns) in (
-      omega (arith, q .settled .room),
-      omega (arith, q .settled .within),
-      q .indexed .1 (sym z),
-      subst (λ r. On (g .S·System .next (c .args .sys .now)) (g .S·System .begin (c .args .sys .now)) (g .S·System .shows (c .args .sys .now)) (g .S·System .least (c .args .sys .now)) (c .columns-columns .result) (c .size-size .result) 1 r 0 r (c .settle .last .keys) (c .args .table .now)) z
-          (on-begun columns (ap (keyAt (c .settle .last .keys) (c .size-size .result)) z ∙ q .settled .here ∙ c .start .ensures)),
-      refl,
-    )
+    let columns = subst (λ n. Columns n (g .S·System .column (c .args .sys .now)) (g .S·System .least (c .args .sys .now))) (sym (c .columns-columns .ensures .is)) (c .columns-columns .ensures .columns) in
+    (omega (arith, q .settled .room), omega (arith, q .settled .within), q .indexed .1 (sym z), on-begun columns z (q .settled .here ∙ c .start .ensures), refl)
 
 pub returns : need.returns
 returns g c = record {
   says = subst (λ m. Complete (g .S·System .next (c .args .sys .now)) (g .S·System .begin (c .args .sys .now)) (g .S·System .shows (c .args .sys .now)) (g .S·System .column (c .args .sys .now)) m (g .S·System .width (c .args .sys .now)) (c .args .most) (c .loop-row .count) (c .loop-row .keys) (c .loop-row .table)) (c .columns-columns .ensures .is)
       (subst (λ n. Complete (g .S·System .next (c .args .sys .now)) (g .S·System .begin (c .args .sys .now)) (g .S·System .shows (c .args .sys .now)) (g .S·System .column (c .args .sys .now)) (c .columns-columns .result) n (c .args .most) (c .loop-row .count) (c .loop-row .keys) (c .loop-row .table)) (c .size-size .ensures .is)
       (on-ended (subst (λ n. Columns n (g .S·System .column (c .args .sys .now)) (g .S·System .least (c .args .sys .now))) (sym (c .columns-columns .ensures .is)) (c .columns-columns .ensures .columns))
-      (c .size-size .ensures .lawful) (c .loop-row .inv .3) (omega arith) (c .loop-row .inv .0)));
+      (c .size-size .ensures .lawful) (c .loop-row .inv .3) (omega arith) (c .loop-row .inv .0) (omega (arith, c .pre .table, c .loop-row .kept .table))));
   rest = c .loop-row .inv .4;
 }
