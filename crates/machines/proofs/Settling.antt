@@ -1,10 +1,10 @@
 -- What a settled key makes of an exploration in memory: nothing more fits, an old row is led to, or a new one. Assumes nothing.
 use mathlib.Core.Path.{_≡_, refl, sym, ap, _∙_, subst}
 use mathlib.Core.List.{List, [], _∷_, _++_}
-use Prim.Native.Nat.{ℕ, _+_, _*_, _<_, _≤_}
+use Prim.Native.Nat.{ℕ, _+_, _-_, _*_, _<_, _≤_}
 use native.Mathlib.Omega.{arith}
 use borrow.Author.Count.{below-more}
-use lib.ListN.{length, set}
+use lib.ListN.{length, set, take, drop}
 use Rattle.std.specs.declared.option.Option.the-variants.{Some, None}
 use Rattle.std.proofs.shelf.Lists.{getD-set-same, getD-set-other}
 use Rattle.machines.specs.Words.{Word}
@@ -12,6 +12,7 @@ use Rattle.machines.specs.Columns.{Columns, shown, leads}
 use Rattle.machines.specs.Systems.{Key, reach, Lawful, Pairwise}
 use Rattle.machines.specs.Keys.{keyAt, Class-is}
 use Rattle.machines.specs.Exploring.{wordAt, Partly, On, Too-many, Complete}
+use Rattle.machines.proofs.RowParts.{with-row, row-set, row-wide, row-long, row-first}
 use Rattle.machines.proofs.Steps.{begun, again, new-apart, new, same-shows, rekey, retable, good-reach, next-row, all-found, ended}
 
 module _ {f : Key → ℕ → Key} {s : Key} {shows : Key → ℕ} {column least : ℕ → ℕ} {count : ℕ} (columns : Columns count column least) where
@@ -35,6 +36,10 @@ module _ {f : Key → ℕ → Key} {s : Key} {shows : Key → ℕ} {column least
           (λ i m. getD-set-other t (257 * row) (257 * i) v 0 (λ q. omega arith) ∙ on .says i (omega arith))
           (getD-set-same t (257 * row) v 0 w ∙ e ∙ ap shows (on .partly .keyed row h));
     }
+
+    pub part-shown : (v : ℕ) → v ≡ shows (keyAt ks n row) → row < k → done ≡ row → 257 * row + 257 ≤ length t
+        → On f s shows least count n k row c (row + 1) ks (with-row row t (set (take (257 * row + 257 - 257 * row) (drop (257 * row) t)) 0 v))
+    part-shown v e h d w = subst (On f s shows least count n k row c (row + 1) ks) (row-first row t v (omega (arith, row-long row t w)) (omega arith)) (on-shown v e h d (omega arith))
 
     module _ (ks′ : List ℕ) (in-row : row < k) (in-columns : c < count) (key : Key) (is : key ≡ f (keyAt ks n row) (least c)) where
       pub settled-none : (most : ℕ) → k ≡ most → ((j : ℕ) → j < k → keyAt ks n j ≡ key → ⊥) → Too-many f s most
@@ -80,6 +85,22 @@ module _ {f : Key → ℕ → Key} {s : Key} {shows : Key → ℕ} {column least
     where
       p : Partly f s least count k k 0 (keyAt ks n) t (on .words)
       p = subst (λ z. Partly f s least count k z 0 (keyAt ks n) t (on .words)) e (on .partly)
+
+-- the same through the row as a part of the table
+module _ {f : Key → ℕ → Key} {s : Key} {shows : Key → ℕ} {column least : ℕ → ℕ} {count : ℕ} (columns : Columns count column least) {n k row c done : ℕ} {ks : List ℕ}
+    (t cells : List ℕ) (long : length cells ≡ 257) (room : 257 * row + 257 ≤ length t) (on : On f s shows least count n k row c done ks (with-row row t cells))
+    (ks′ : List ℕ) (in-row : row < k) (in-columns : c < count) (key : Key) (is : key ≡ f (keyAt ks n row) (least c)) (most to : ℕ) (h : Class-is ks ks′ n k most key to) (few : done ≤ k) where
+  fits : 257 * row + (1 + c) < length (with-row row t cells)
+  fits = omega (arith, columns .few, row-wide row t cells long room)
+
+  moved : with-row row t (set cells (1 + c) to) ≡ set (with-row row t cells) (257 * row + (1 + c)) to
+  moved = row-set row t cells (1 + c) to (omega (arith, columns .few)) (omega arith)
+
+  pub part-old : (to ≡ k → ⊥) → On f s shows least count n k row (c + 1) done ks′ (with-row row t (set cells (1 + c) to))
+  part-old old = subst (On f s shows least count n k row (c + 1) done ks′) (sym moved) (settled-old columns on ks′ in-row in-columns key is most to fits h few old)
+
+  pub part-new : to ≡ k → On f s shows least count n (k + 1) row (c + 1) done ks′ (with-row row t (set cells (1 + c) to))
+  part-new e = subst (On f s shows least count n (k + 1) row (c + 1) done ks′) (sym moved) (settled-new columns on ks′ in-row in-columns key is most to fits h few e)
 
 -- even the first key needs room
 pub none-fits : (f : Key → ℕ → Key) (s : Key) {column least : ℕ → ℕ} {count most : ℕ} → Columns count column least → 0 ≡ most → Too-many f s most

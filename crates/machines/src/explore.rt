@@ -43,7 +43,8 @@ fn explore_row<S: System>(
     ensures says { λ r. ⌜ Row-says (S·System .next (now (sys .entry))) (S·System .begin (now (sys .entry))) (S·System .shows (now (sys .entry))) (S·System .least (now (sys .entry))) columns size most row (now (keys .exit)) (now (table .exit)) (now (heads .exit)) (now (links .exit)) r ⌝ }
     ensures rest { λ _. ⌜ drop (257 * most) (now (table .exit)) ≡ drop (257 * most) (now (table .entry)) ⌝ }
 {
-    table[257 * row] = sys.show(keys::at(keys, size, row));
+    let cells = &mut table[257 * row..257 * row + 257];
+    cells[0] = sys.show(keys::at(keys, size, row));
     let mut count = found;
     for c in 0..columns {
         sys.step(keys::at(keys, size, row), c, scratch);
@@ -52,7 +53,7 @@ fn explore_row<S: System>(
                 return None;
             }
             Some(to) => {
-                table[257 * row + (1 + c)] = to.0 as u32;
+                cells[1 + c] = to.0 as u32;
                 if to.0 == count {
                     count += 1;
                 }
