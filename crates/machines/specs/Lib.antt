@@ -9,3 +9,8 @@ pub mod Minimal
 pub mod Systems
 pub mod Laws
 pub mod Dead
+pub mod Inside
+pub mod Keys
+pub mod Hashed
+pub mod Exploring
+pub mod Pairs
