@@ -23,3 +23,9 @@ pub mod RowParts
 pub mod Settling
 pub mod Explored
 pub mod Paired
+pub mod Rounds
+pub mod Quotients
+pub mod Dead
+pub mod DeadRows
+pub mod Moves
+pub mod SetBits
