@@ -7,6 +7,13 @@ pub mod Pieces
 pub mod Columns
 pub mod Minimal
 pub mod Systems
+pub mod Laws
+pub mod Dead
+pub mod Inside
+pub mod Keys
+pub mod Hashed
+pub mod Exploring
+pub mod Pairs
 pub mod Inside
 pub mod Refining
 pub mod Joining

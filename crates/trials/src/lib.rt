@@ -1,0 +1,7 @@
+// Cases that are run: worked out by hand, and not taken from what a program printed.
+#[cfg(test)]
+mod order;
+#[cfg(test)]
+mod reading;
+#[cfg(test)]
+mod searching;
