@@ -25,7 +25,6 @@ pub mod Explored
 pub mod Paired
 pub mod Rounds
 pub mod Quotients
-pub mod Dead
 pub mod DeadRows
 pub mod Moves
 pub mod SetBits

@@ -14,9 +14,7 @@ pub mod Keys
 pub mod Hashed
 pub mod Exploring
 pub mod Pairs
-pub mod Inside
 pub mod Refining
 pub mod Joining
-pub mod Dead
 pub mod DeadRows
 pub mod Sets

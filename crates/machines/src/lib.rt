@@ -1,15 +1,14 @@
 // Words and tables as such: what this crate proves knows nothing of patterns.
-pub mod laws;
-pub mod explore;
-pub mod index;
-pub mod keys;
-pub mod order;
-pub mod pairs;
 mod bits;
 pub mod dead_row;
+pub mod explore;
 pub mod follow;
+pub mod index;
 pub mod inside;
+pub mod keys;
+pub mod laws;
 pub mod order;
+pub mod pairs;
 pub mod quotient;
 pub mod refine;
 pub mod repeat;
