@@ -15,16 +15,3 @@ pub mod Finite
 pub mod Reached
 pub mod Dead
 pub mod Existing
-pub mod Products
-pub mod Puts
-pub mod Buckets
-pub mod Steps
-pub mod RowParts
-pub mod Settling
-pub mod Explored
-pub mod Paired
-pub mod Rounds
-pub mod Quotients
-pub mod DeadRows
-pub mod Moves
-pub mod SetBits

@@ -1,6 +1,0 @@
-use borrow.Author.Needs.{needs}
-use Rattle.machines.proofs.Paired.{set-two}
-use Rattle.machines.proofs.pairs.PairSystem.start.Needs as need
-
-pub returns : need.returns
-returns c = set-two _ _ _ (search needs)
