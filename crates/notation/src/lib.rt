@@ -4,14 +4,14 @@ ghost use Rattle.std.specs.Vec.{made};
 ghost use Rattle.notation.specs.Promises.{Notated, NotationRead};
 use std::alloc::Global;
 
-pub mod classes;
+mod classes;
 pub mod error;
-pub mod expressions;
-pub mod lines;
-pub mod literals;
-pub mod place;
-pub mod scan;
-pub mod writing;
+mod expressions;
+mod lines;
+mod literals;
+mod place;
+mod scan;
+mod writing;
 
 use error::Error;
 use error::Expected;
@@ -20,7 +20,7 @@ use error::FaultFromRefused;
 use error::Mistake;
 use place::locate;
 use scan::Reader;
-use scan::Span;
+pub use scan::Span;
 
 // How many bytes a text may have.
 pub const MOST_TEXT: usize = 16777216;
