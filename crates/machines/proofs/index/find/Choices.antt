@@ -1,6 +1,5 @@
 use Prim.Native.Nat.{ℕ, _<_, _≤_, _-_}
 use mathlib.Core.Path.{_≡_}
-use lib.ListN.{length}
 use Rattle.machines.specs.Keys.{keyAt}
 use Rattle.machines.specs.Hashed.{bucket}
 use Rattle.machines.proofs.index.find.Given as given

@@ -1,4 +1,3 @@
-use borrow.Author.Needs.{needs}
 use Rattle.machines.proofs.keys.put.Needs as need
 use Rattle.machines.proofs.Puts.{put-kept}
 

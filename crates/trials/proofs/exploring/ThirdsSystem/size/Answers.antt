@@ -1,6 +1,6 @@
 use mathlib.Core.Path.{refl, ap}
-use mathlib.Core.List.{List, [], _∷_}
-use Prim.Native.Nat.{ℕ, _+_, _%_}
+use mathlib.Core.List.{[], _∷_}
+use Prim.Native.Nat.{_+_, _%_}
 use native.Mathlib.Omega.{arith}
 use lib.ListN.{getD}
 use Rattle.trials.proofs.exploring.ThirdsSystem.size.Needs as need

@@ -1,9 +1,7 @@
 use mathlib.Core.Path.{_∙_, ap}
 use mathlib.Core.List.{[], _∷_}
-use Prim.Native.Nat.{_+_, _*_, _/_, _%_}
 use native.Mathlib.Omega.{arith}
 use borrow.Author.Needs.{needs}
-use lib.ListN.{getD}
 use Rattle.trials.proofs.One.{set-one}
 use Rattle.trials.proofs.exploring.ThirdsSystem.step.Needs as need
 
