@@ -8,6 +8,7 @@ use lib.ListN.{length, getD, take, drop}
 use Rattle.std.proofs.shelf.Lists.{places}
 use Rattle.machines.specs.Classes.{nth}
 use Rattle.machines.specs.Tables.{Sound-table, Leads-inside, or0}
+use Rattle.machines.proofs.Places.{nth-read}
 
 pub or0-nth : (t : List ℕ) (p : ℕ) → or0 (nth t p) ≡ getD t p 0
 or0-nth [] p = refl
@@ -15,9 +16,7 @@ or0-nth (x ∷ xs) zero = refl
 or0-nth (x ∷ xs) (suc n) = or0-nth xs n
 
 pub nth-getD : (t : List ℕ) (p : ℕ) → p < length t → nth t p ≡ some (getD t p 0)
-nth-getD [] p h = absurd (omega arith)
-nth-getD (x ∷ xs) zero h = refl
-nth-getD (x ∷ xs) (suc n) h = nth-getD xs n (omega arith)
+nth-getD t p h = nth-read t 0 p h
 
 -- a cell of a row that is read as a part of the table
 pub row-cell : (t : List ℕ) (from p : ℕ) → p < 257 → getD (take ((from + 257) - from) (drop from t)) p 0 ≡ getD t (from + p) 0

@@ -3,6 +3,18 @@ pub mod Codes
 pub mod Cells
 pub mod Pieces
 pub mod Feeding
+pub mod Places
+pub mod Pigeons
+pub mod Nerode
+pub mod Relating
+pub mod Unique
+pub mod Walking
+pub mod Least
+pub mod Firsts
+pub mod Finite
+pub mod Reached
+pub mod Dead
+pub mod Existing
 pub mod Products
 pub mod Puts
 pub mod Buckets
@@ -11,3 +23,8 @@ pub mod RowParts
 pub mod Settling
 pub mod Explored
 pub mod Paired
+pub mod Rounds
+pub mod Quotients
+pub mod DeadRows
+pub mod Moves
+pub mod SetBits

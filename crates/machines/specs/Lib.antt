@@ -7,8 +7,14 @@ pub mod Pieces
 pub mod Columns
 pub mod Minimal
 pub mod Systems
+pub mod Laws
+pub mod Dead
 pub mod Inside
 pub mod Keys
 pub mod Hashed
 pub mod Exploring
 pub mod Pairs
+pub mod Refining
+pub mod Joining
+pub mod DeadRows
+pub mod Sets

@@ -20,7 +20,7 @@ pub struct Table<'a> {
     ghost inside: { Leads-inside rows (now words) },
 }
 
-// Whether the words are a table of so many rows; 257 times as many need not fit a word.
+// Whether the words are a table of so many rows; 257 times as many need not fit a usize.
 pub fn is_table(words: &[u32], rows: usize) -> bool
     ensures { λ r. ⌜ (r ≡ true) ↔ Sound-table rows (now (words .entry)) ⌝ }
 {

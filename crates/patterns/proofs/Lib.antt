@@ -4,4 +4,5 @@ pub mod Trees
 pub mod Extents
 pub mod Cutting
 pub mod Matching
+pub mod Ending
 pub mod FedPieces

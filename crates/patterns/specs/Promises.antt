@@ -16,7 +16,7 @@ use Rattle.patterns.specs.Patterns.{Pattern, seq, star, matches}
 use Rattle.patterns.specs.Meanings.{Meaning}
 use Rattle.patterns.specs.Lists.{write, sound, List-of, One-list, Stands}
 use Rattle.patterns.specs.Nodes.{node-bytes, node-sound}
-use Rattle.patterns.specs.Searching.{ends-along}
+use Rattle.patterns.specs.Searching.{anywhere, ends, ends-along}
 
 -- reading one node: the one that stands at the place, or there is none
 pub record NodeAt (s : List ℕ) (at : ℕ) (n : Node) : Type 0 where
@@ -66,6 +66,13 @@ pub record Some-list (s : List ℕ) : Type 0 where
   pub patterns : List Pattern
   pub here : List-of s patterns
 
+-- deciding by definition which patterns end after a text
+abbrev pub EndsAt : List ℕ → ℕ → Word → Bool → Type 0
+EndsAt s at w r = (p : Pattern) (stop : ℕ) → PatternAt s at p stop → r ≡ matches (anywhere p) w
+
+abbrev pub BitsAfter : List ℕ → Word → ℕ → Type 0
+BitsAfter s w r = (ps : List Pattern) → List-of s ps → r ≡ ends ps w
+
 -- does the pattern with this number in the list match the word
 abbrev pub Matched : List ℕ → ℕ → Word → Option Bool → Type 0
 Matched s i w (Some b) = (ps : List Pattern) × (p : Pattern) × List-of s ps × (nth ps i ≡ some p) × (b ≡ matches p w)
@@ -80,3 +87,7 @@ abbrev pub SearchedSays : List ℕ → Word → List ℕ → List ℕ → Search
 SearchedSays s w o o′ Read = (ps : List Pattern) × List-of s ps × (take (length w) o′ ≡ ends-along ps [] w) × (drop (length w) o′ ≡ drop (length w) o)
 SearchedSays s w o o′ NoList = ((ps : List Pattern) → List-of s ps → ⊥) × (o′ ≡ o)
 SearchedSays s w o o′ Full = ((ps : List Pattern) × List-of s ps) × (length o < length w) × (o′ ≡ o)
+
+pub record SearchedPost (s : List ℕ) (w : Word) (o o′ : List ℕ) (r : Searched) : Type 0 where
+  pub says : SearchedSays s w o o′ r
+  pub meaning : Meaning

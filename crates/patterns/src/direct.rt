@@ -3,8 +3,9 @@ ghost use Prim.Native.Nat.{ℕ, _<_};
 ghost use mathlib.Core.Path.{_≡_};
 ghost use lib.ListN.{length};
 ghost use Rattle.patterns.specs.Patterns.{single};
-ghost use Rattle.patterns.specs.Promises.{Some-pattern, MatchesAt, SequenceMatches, StarMatches};
+ghost use Rattle.patterns.specs.Promises.{Some-pattern, Some-list, MatchesAt, SequenceMatches, StarMatches, EndsAt, BitsAfter, MatchedPost, SearchedPost};
 use crate::list::pattern_behind;
+use crate::list::read_list;
 use crate::node::Node;
 use crate::node::read_node;
 
@@ -78,4 +79,68 @@ fn star_matches(list: &[u8], at: usize, word: &[u8]) -> bool
         }
     }
     false
+}
+
+// Whether the pattern at a place of the list ends after the text: some last part of the text matches it.
+fn ends_after(list: &[u8], at: usize, text: &[u8]) -> bool
+    requires { ⌜ Some-pattern (now list) at ⌝ }
+    ensures { λ r. ⌜ EndsAt (now (list .entry)) at (now (text .entry)) r ⌝ }
+{
+    for start in 0..=text.len() {
+        if matches_at(list, at, &text[start..]) {
+            return true;
+        }
+    }
+    false
+}
+
+// The patterns of the list that end after the text, as bits, the first lowest.
+fn bits_after(list: &[u8], text: &[u8]) -> u32
+    requires { ⌜ Some-list (now list) ⌝ }
+    ensures { λ r. ⌜ BitsAfter (now (list .entry)) (now (text .entry)) r ⌝ }
+{
+    let mut bits = 0u32;
+    let mut at = 0;
+    let mut index = 0u32;
+    while at < list.len() {
+        if ends_after(list, at, text) {
+            bits |= 1 << index;
+        }
+        at = pattern_behind(list, at);
+        index += 1;
+    }
+    bits
+}
+
+// Whether the pattern with this number in the list matches the word; none if the bytes are no list or have no such pattern.
+pub fn matches(list: &[u8], index: usize, word: &[u8]) -> Option<bool>
+    ensures { λ r. ⌜ MatchedPost (now (list .entry)) index (now (word .entry)) r ⌝ }
+{
+    let Some(count) = read_list(list) else {
+        return None;
+    };
+    if index >= count {
+        return None;
+    }
+    let mut at = 0;
+    for _before in 0..index {
+        at = pattern_behind(list, at);
+    }
+    Some(matches_at(list, at, word))
+}
+
+// Searches the text for the list's patterns: into `ends` go the bits after each byte.
+pub fn search(list: &[u8], text: &[u8], ends: &mut [u32]) -> Searched
+    ensures { λ r. ⌜ SearchedPost (now (list .entry)) (now (text .entry)) (now (ends .entry)) (now (ends .exit)) r ⌝ }
+{
+    let Some(_count) = read_list(list) else {
+        return Searched::NoList;
+    };
+    if ends.len() < text.len() {
+        return Searched::Full;
+    }
+    for i in 0..text.len() {
+        ends[i] = bits_after(list, &text[0..i + 1]);
+    }
+    Searched::Read
 }

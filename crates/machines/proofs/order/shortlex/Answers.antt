@@ -4,10 +4,10 @@ use Rattle.machines.proofs.Shortlex.{level-none, level-more, level-below, leve
 use Rattle.machines.proofs.order.shortlex.Needs as need
 
 pub returns-then-left-right : need.returns-then-left-right
-returns-then-left-right c = shorter (c .if-left-right .taken)
+returns-then-left-right c = shorter (omega arith)
 
 pub returns-then-right-left : need.returns-then-right-left
-returns-then-right-left c = shorter (c .if-right-left .taken)
+returns-then-right-left c = shorter (omega arith)
 
 pub loop-i-holds : need.loop-i-holds
 loop-i-holds c = level-none _ _ (omega arith)

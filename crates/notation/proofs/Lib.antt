@@ -1,0 +1,4 @@
+pub mod Placing
+pub mod Adding
+pub mod Moving
+pub mod Naming
