@@ -1,5 +1,6 @@
 -- Pairs of rows lead where the two tables lead, and bytes of one column lead to one pair. Assumes nothing.
 use mathlib.Core.Path.{_≡_, refl, sym, ap, _∙_}
+use mathlib.Core.Logic.{_↔_}
 use mathlib.Core.List.{List, [], _∷_}
 use Prim.Native.Nat.{ℕ, _<_}
 use native.Mathlib.Omega.{arith}
@@ -12,6 +13,8 @@ use Rattle.machines.specs.Minimal.{Gives}
 use Rattle.machines.specs.Systems.{reach, Lawful}
 use Rattle.exploration.specs.Pairs.{join, pair-next, pair-shows, Pair-key}
 use Rattle.exploration.specs.declared.pairs.Join.{Join}
+use Rattle.exploration.specs.Exploring.{Complete}
+use Rattle.exploration.proofs.Explored.{complete-gives}
 
 -- both numbers of a key of two are written
 pub set-two : (xs : List ℕ) (x y : ℕ) → length xs ≡ 2 → set (set xs 0 x) 1 y ≡ x ∷ y ∷ []
@@ -45,3 +48,17 @@ module _ (column : ℕ → ℕ) (l r : List ℕ) where
   pub pair-gives : (j : Join) (f g : Word → ℕ) → Gives f (leads column l) (shown l) → Gives g (leads column r) (shown r)
       → (w : Word) → Bytes w → pair-shows j l r (reach (pair-next column l r) (0 ∷ 0 ∷ []) w) ≡ join j (f w) (g w)
   pair-gives j f g p q w o = ap (pair-shows j l r) (pair-reach w 0 0) ∙ ap (λ z. join j z (shown r (run (leads column r) 0 w))) (p w o) ∙ ap (join j (f w)) (q w o)
+
+  -- two words lead to one pair exactly if they lead to one row in each table
+  pub pair-same : (u v : Word)
+      → (reach (pair-next column l r) (0 ∷ 0 ∷ []) u ≡ reach (pair-next column l r) (0 ∷ 0 ∷ []) v)
+      ↔ ((run (leads column l) 0 u ≡ run (leads column l) 0 v) × (run (leads column r) 0 u ≡ run (leads column r) 0 v))
+  pair-same u v = (
+    λ e. let q = sym (pair-reach u 0 0) ∙ e ∙ pair-reach v 0 0 in (ap (λ k. getD k 0 0) q, ap (λ k. getD k 1 0) q),
+    λ e. pair-reach u 0 0 ∙ ap (λ i. i ∷ run (leads column r) 0 u ∷ []) (e .0) ∙ ap (λ i. run (leads column l) 0 v ∷ i ∷ []) (e .1) ∙ sym (pair-reach v 0 0),
+  )
+
+  -- and the table of the pairs gives what the two tables give together
+  pub pair-complete : (j : Join) (f g : Word → ℕ) {count n most k : ℕ} {ks t : List ℕ} → Gives f (leads column l) (shown l) → Gives g (leads column r) (shown r)
+      → Complete (pair-next column l r) (0 ∷ 0 ∷ []) (pair-shows j l r) column count n most k ks t → Gives (λ w. join j (f w) (g w)) (leads column t) (shown t)
+  pair-complete j f g p q c = complete-gives c (λ w. join j (f w) (g w)) (pair-gives j f g p q)

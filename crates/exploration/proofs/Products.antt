@@ -1,6 +1,6 @@
 -- The one place for products of two variables. Assumes nothing.
-use mathlib.Core.Path.{_≡_, sym, subst, refl, _∙_}
-use Prim.Native.Nat.{ℕ, _+_, _*_, _<_, _≤_, suc}
+use mathlib.Core.Path.{_≡_}
+use Prim.Native.Nat.{ℕ, _+_, _*_, _<_, _≤_}
 use native.Mathlib.Nat.{suc-mul}
 use native.Mathlib.Numerals.{add-one}
 use native.Mathlib.Omega.{arith}

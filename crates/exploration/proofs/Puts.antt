@@ -1,13 +1,13 @@
 -- What a key that is written into its place leaves of the others. Assumes nothing.
-use mathlib.Core.Path.{_≡_, sym, refl, _∙_, ap}
-use mathlib.Core.List.{List, [], _∷_, _++_}
-use Prim.Native.Nat.{ℕ, _+_, _*_, _<_, _≤_}
+use mathlib.Core.Path.{_≡_, sym, _∙_, ap}
+use mathlib.Core.List.{List, _++_}
+use Prim.Native.Nat.{ℕ, _+_, _*_, _≤_}
 use native.Mathlib.Omega.{arith}
 use lib.ListN.{length, take, drop}
 use borrow.Rule.Slice.PartMut.{putMid, postOf}
-use Rattle.std.proofs.shelf.Lists.{take-at, drop-at, drop-take, length-take-le, length-append}
+use Rattle.std.proofs.shelf.Lists.{take-at, drop-at, drop-take, length-take-le}
 use Rattle.std.proofs.shelf.Parts.{take-putMid-below}
-use Rattle.exploration.specs.Keys.{keyAt, Kept}
+use Rattle.exploration.specs.Keys.{Kept}
 use Rattle.exploration.proofs.Products.{next-row, row-within}
 
 pub put-kept : (ks key ys : List ℕ) (n i k : ℕ) → (i + 1) * n ≤ length ks → ys ≡ key → length key ≡ n → Kept ks (putMid (i * n) k ks ys) n i key

@@ -5,10 +5,8 @@ use Prim.Native.Nat.{ℕ, _+_, _-_, _*_, _<_, _≤_}
 use native.Mathlib.Omega.{arith}
 use borrow.Author.Count.{below-more}
 use lib.ListN.{length, set, take, drop}
-use Rattle.std.specs.declared.option.Option.the-variants.{Some, None}
 use Rattle.std.proofs.shelf.Lists.{getD-set-same, getD-set-other}
-use Rattle.machines.specs.Words.{Word}
-use Rattle.machines.specs.Columns.{Columns, shown, leads}
+use Rattle.machines.specs.Columns.{Columns, shown}
 use Rattle.machines.specs.Systems.{Key, reach, Lawful, Pairwise}
 use Rattle.exploration.specs.Keys.{keyAt, Class-is}
 use Rattle.exploration.specs.Exploring.{wordAt, Partly, On, Too-many, Complete}
@@ -71,9 +69,9 @@ module _ {f : Key → ℕ → Key} {s : Key} {shows : Key → ℕ} {column least
         }
 
   -- from the start, and to the end
-  pub on-begun : {n row : ℕ} {ks t : List ℕ} → 0 ≡ row → keyAt ks n row ≡ s → On f s shows least count n 1 row 0 row ks t
-  on-begun {n} {row} {ks} {t} z e = subst (λ r. On f s shows least count n 1 r 0 r ks t) z
-      (record { words = [] ∷ []; partly = begun f s columns (keyAt ks n) t (ap (keyAt ks n) z ∙ e); says = λ i m. absurd (omega arith) })
+  pub on-begun : {n row : ℕ} {ks t : List ℕ} (key : Key) → 0 ≡ row → keyAt ks n row ≡ key → key ≡ s → On f s shows least count n 1 row 0 row ks t
+  on-begun {n} {row} {ks} {t} key z e is = subst (λ r. On f s shows least count n 1 r 0 r ks t) z
+      (record { words = [] ∷ []; partly = begun f s columns (keyAt ks n) t (ap (keyAt ks n) z ∙ e ∙ is); says = λ i m. absurd (omega arith) })
 
   pub on-ended : {good : Key → Type 0} {m n k row most : ℕ} {ks t : List ℕ} → Lawful s f good m column least → On f s shows least count n k row 0 row ks t → row ≡ k → k ≤ most → 257 * most ≤ length t → Complete f s shows column count n most k ks t
   on-ended {n = n} {k = k} {row = row} {ks = ks} {t = t} lawful on e few long = record {

@@ -6,6 +6,7 @@
 --   On                   the same of keys and a table in memory, for some words, where the rows below done show what their keys show
 --   Too-many             more words than there is room for, and no two lead to one key
 --   Complete             all keys are found, and the table of their k rows is written
+--   Row-done             a row is read, and the keys that are found are still in their buckets
 --   Row-says, Says       what is promised of a row, and of an exploration
 use mathlib.Core.Path.{_≡_}
 use mathlib.Core.List.{List, []}

@@ -14,7 +14,7 @@ pub enum Join {
     And,
 }
 
-// Of each byte its column, and of each column its least byte.
+// The columns are those of both tables: `column` has the column of each byte, and `least` the least byte of each column.
 #[derive(Drop)]
 pub struct Pair<'a> {
     pub join: Join,

@@ -1,11 +1,10 @@
 use mathlib.Core.Path.{_≡_, refl, sym, ap, _∙_, subst}
-use Prim.Native.Nat.{ℕ, _*_, _≤_}
+use Prim.Native.Nat.{_*_, _≤_}
 use native.Mathlib.Omega.{arith}
 use borrow.Author.Needs.{needs}
 use lib.ListN.{length, replicate}
 use Rattle.machines.specs.Columns.{Columns}
-use Rattle.exploration.specs.Keys.{keyAt}
-use Rattle.exploration.specs.Exploring.{On, Too-many, Complete}
+use Rattle.exploration.specs.Exploring.{Complete}
 use Rattle.exploration.proofs.Buckets.{indexed-none}
 use Rattle.exploration.proofs.Settling.{on-begun, on-ended, none-fits}
 use Rattle.exploration.proofs.explore.explore.Needs as need
@@ -34,7 +33,7 @@ loop-row-holds g c =
     let q = c .in-Some .ensures tt in
     let z : 0 ≡ c .in-Some .first .0 = omega (arith, q .settled .within) in
     let columns = subst (λ n. Columns n (g .S·System .column (c .args .sys .now)) (g .S·System .least (c .args .sys .now))) (sym (c .columns-columns .ensures .is)) (c .columns-columns .ensures .columns) in
-    (omega (arith, q .settled .room), omega (arith, q .settled .within), q .indexed .1 (sym z), on-begun columns z (q .settled .here ∙ c .start .ensures), refl)
+    (omega (arith, q .settled .room), omega (arith, q .settled .within), q .indexed .1 (sym z), on-begun columns (c .start .last .out) z (q .settled .here) (c .start .ensures), refl)
 
 pub returns : need.returns
 returns g c = record {

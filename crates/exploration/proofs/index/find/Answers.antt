@@ -1,8 +1,6 @@
-use borrow.Author.Needs.{needs}
 use native.Mathlib.Omega.{arith}
 use Prim.Native.Nat.{ℕ, _-_}
 use mathlib.Core.Path.{_≡_, sym, _∙_}
-use lib.ListN.{length}
 use Rattle.std.proofs.shelf.Equals.{matches-decides}
 use Rattle.exploration.specs.Keys.{keyAt}
 use Rattle.exploration.proofs.Products.{next-row, row-within}

@@ -1,6 +1,5 @@
 use Prim.Native.Nat.{ℕ, _<_, _≤_, _-_}
 use mathlib.Core.Path.{_≡_}
-use lib.ListN.{length}
 use Rattle.exploration.specs.Keys.{keyAt}
 use Rattle.exploration.specs.Hashed.{bucket}
 use Rattle.exploration.proofs.index.find.Given as given

@@ -1,9 +1,7 @@
-use borrow.Author.Needs.{needs}
 use native.Mathlib.Omega.{arith}
-use mathlib.Core.Path.{_≡_, refl, sym, ap, _∙_}
-use Prim.Native.Nat.{ℕ, _%_}
+use mathlib.Core.Path.{sym, ap, _∙_}
+use Prim.Native.Nat.{_%_}
 use Rattle.std.proofs.shelf.Bits.{mul-le, mod-below}
-use lib.ListN.{length}
 use Rattle.exploration.specs.Keys.{keyAt}
 use Rattle.exploration.specs.Hashed.{bucket}
 use Rattle.exploration.proofs.Products.{next-row, row-within}

@@ -1,4 +1,3 @@
-use borrow.Author.Needs.{needs}
 use Rattle.exploration.proofs.keys.put.Needs as need
 use Rattle.exploration.proofs.Puts.{put-kept}
 

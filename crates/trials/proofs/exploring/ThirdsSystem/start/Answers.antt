@@ -1,0 +1,6 @@
+use borrow.Author.Needs.{needs}
+use Rattle.trials.proofs.One.{set-one}
+use Rattle.trials.proofs.exploring.ThirdsSystem.start.Needs as need
+
+pub returns : need.returns
+returns c = set-one _ _ (search needs)

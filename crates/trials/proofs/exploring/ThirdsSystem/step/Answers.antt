@@ -1,0 +1,9 @@
+use mathlib.Core.Path.{_∙_, ap}
+use mathlib.Core.List.{[], _∷_}
+use native.Mathlib.Omega.{arith}
+use borrow.Author.Needs.{needs}
+use Rattle.trials.proofs.One.{set-one}
+use Rattle.trials.proofs.exploring.ThirdsSystem.step.Needs as need
+
+pub returns : need.returns
+returns c = set-one _ _ (search needs) ∙ ap (λ z. z ∷ []) (omega arith)
