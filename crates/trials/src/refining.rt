@@ -1,6 +1,6 @@
 // Rows that do alike, and the least table, on machines worked out by hand.
-use refinement::dead_row::dead_row;
 use machines::inside::is_inside;
+use refinement::dead_row::dead_row;
 use refinement::quotient::quotient;
 use refinement::refine::refine;
 use std::test::*;
