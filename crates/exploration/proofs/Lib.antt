@@ -6,3 +6,4 @@ pub mod RowParts
 pub mod Settling
 pub mod Explored
 pub mod Paired
+pub mod One

@@ -1,8 +1,8 @@
 // Searches a text for the patterns of a list and prints for each the places after which it ends.
 mod printing;
 
+use notation::Span;
 use notation::error::ErrorDisplay as _;
-use notation::scan::Span;
 use patterns::direct::Searched;
 use patterns::direct::matches;
 use patterns::direct::search;

@@ -1,5 +1,5 @@
 use borrow.Author.Needs.{needs}
-use Rattle.trials.proofs.One.{set-one}
+use Rattle.exploration.proofs.One.{set-one}
 use Rattle.trials.proofs.exploring.ThirdsSystem.start.Needs as need
 
 pub returns : need.returns

@@ -2,7 +2,7 @@ use mathlib.Core.Path.{_∙_, ap}
 use mathlib.Core.List.{[], _∷_}
 use native.Mathlib.Omega.{arith}
 use borrow.Author.Needs.{needs}
-use Rattle.trials.proofs.One.{set-one}
+use Rattle.exploration.proofs.One.{set-one}
 use Rattle.trials.proofs.exploring.ThirdsSystem.step.Needs as need
 
 pub returns : need.returns

@@ -1,0 +1,2 @@
+-- The system that is timed.
+pub mod Windows
