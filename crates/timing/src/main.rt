@@ -1,5 +1,6 @@
 // How the time of exploring and refining grows with the rows: the window over the last letters, for 64 to 4,096 rows. Without an
-// argument only the rows that were found are printed, with one the milliseconds too.
+// argument each is done once and only what was found is printed. With one, each is done a hundred times and the microseconds of all
+// turns are printed too, so that they can be held to what a clock outside says of the whole run.
 mod window;
 
 use exploration::explore::explore;
@@ -26,18 +27,24 @@ fn main(rt: LibcRuntime) -> io::Result<()> {
 // Explores and refines the window of one size.
 fn measure(rt: &LibcRuntime, size: u32, timed: bool) -> io::Result<()> {
     let heap = rt.alloc();
-    let most = size as usize;
-    let mut table = vec![in heap; 0u32; 257 * most]?;
+    let turns = if timed { 100u32 } else { 1u32 };
+    let mut table = vec![in heap; 0u32; 257 * size as usize]?;
+    let mut rows = 0;
     let begun = Instant::now(rt)?;
-    let rows = explored(heap, size, table.as_mut_slice())?;
+    for _turn in 0..turns {
+        rows = explored(heap, size, table.as_mut_slice())?;
+    }
     let exploring = begun.elapsed(rt)?.as_micros();
+    let mut blocks = 0;
     let begun = Instant::now(rt)?;
-    let blocks = refined(heap, rows, table.as_slice())?;
+    for _turn in 0..turns {
+        blocks = refined(heap, rows, table.as_slice())?;
+    }
     let refining = begun.elapsed(rt)?.as_micros();
     if timed {
         println!(
             rt,
-            "{rows} rows, {blocks} blocks: {exploring} us exploring, {refining} us refining"
+            "{rows} rows, {blocks} blocks: {exploring} us exploring, {refining} us refining, {turns} turns"
         )
     } else {
         println!(rt, "{rows} rows, {blocks} blocks")
