@@ -27,7 +27,7 @@ pub enum Expected {
 
 impl Expected {
     // The thing in words, as the end of a sentence.
-    pub fn phrase(self) -> &'static str {
+    fn phrase(self) -> &'static str {
         match self {
             Expected::Name => "a name",
             Expected::Colon => "a colon after the name",
