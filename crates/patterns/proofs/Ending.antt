@@ -203,11 +203,6 @@ passing-next {s = s} {at = at} {passed = passed} ps c o l = go (c .later) (c .th
       numbered = ap (nth (c .front ++ q ∷ qs)) (sym (c .long)) ∙ nth-behind (c .front) q qs;
     }
 
-pub nth-below : {A : Type 0} (xs : List A) (i : ℕ) (x : A) → nth xs i ≡ some x → i < length xs
-nth-below [] i x e = absurd (let z : _≡_ {A = ℕ} 0 1 = cc in omega arith)
-nth-below (y ∷ xs) zero x e = omega arith
-nth-below (y ∷ xs) (suc i) x e = omega (arith, nth-below xs i x e)
-
 -- The bits after the first i bytes of a text are written; what is to come is the bits after the others.
 pub record Searching (s : List ℕ) (w : Word) (o₀ o : List ℕ) (i : ℕ) : Type 0 where
   pub written : (ps : List Pattern) → List-of s ps → take i o ++ ends-along ps (take i w) (drop i w) ≡ ends-along ps [] w

@@ -1,10 +1,11 @@
 use native.Mathlib.Omega.{arith}
 use mathlib.Core.Path.{_≡_, sym, ap, _∙_}
 use Rattle.machines.specs.Classes.{nth}
+use Rattle.machines.proofs.Places.{nth-below}
 use lib.ListN.{length}
 use Rattle.patterns.proofs.Trees.{one-list}
 use Rattle.patterns.proofs.Cutting.{meaning}
-use Rattle.patterns.proofs.Ending.{passing-none, passing-more, passing-next, nth-below}
+use Rattle.patterns.proofs.Ending.{passing-none, passing-more, passing-next}
 use Rattle.patterns.proofs.direct.matches.Needs as need
 
 pub returns-in-rest : need.returns-in-rest
