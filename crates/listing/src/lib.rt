@@ -1,3 +1,6 @@
 // The table of a list of patterns, one pattern more at a time.
+
+#![tactic(auto)]
+
 pub mod join;
 pub mod laws;

@@ -3,9 +3,7 @@ use Rattle.std.proofs.Common.{◌≡◌, ℕ, ◌+◌, ◌-◌, ◌*◌, ◌<◌
 use borrow.Rule.Slice.PartMut.{put_mid}
 use Rattle.std.proofs.lemmas.List.{places, get_or-take, get_or-set_same, get_or-set_other, drop-drop}
 use Rattle.std.proofs.lemmas.Slice.{drop-put_mid}
-use Rattle.machines.specs.Words.{Word}
-use Rattle.machines.specs.Columns.{cell, shown, leads}
-use Rattle.machines.specs.Minimal.{Minimal}
+use Rattle.machines.specs.Columns.{cell, shown}
 use Rattle.machines.specs.Expanding.{RowExpanded, Expanded}
 use Rattle.machines.proofs.Cells.{row_cell}
 use Rattle.machines.proofs.Likewise.{minimal_like}

@@ -2,7 +2,7 @@
 use Rattle.std.proofs.Common.{◌≡◌, ℕ, ◌<◌, [], ◌∷◌, sym, refl, ap, ◌∙◌, subst}
 use Rattle.machines.specs.Words.{Word, Bytes}
 use Rattle.machines.specs.Machines.{run}
-use Rattle.machines.specs.Minimal.{Closed, First, Gives, Told, Numbered, Minimal}
+use Rattle.machines.specs.Minimal.{Closed, First, Gives, Numbered, Minimal}
 use Rattle.machines.proofs.Nerode.{run_below}
 
 module _ {k : ℕ} {next goes : ℕ → ℕ → ℕ} (same : (i b : ℕ) → i < k → b < 256 → goes i b ≡ next i b) where

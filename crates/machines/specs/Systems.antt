@@ -4,7 +4,7 @@
 --                                 a good key, the same one for all bytes of a column
 --   Pairwise next s k ws          k words that lead to pairwise different keys
 --   Explored next s k key t       k rows: the keys that are reached, each once, by first words, with their table's machine
-use Rattle.std.specs.Prelude.{◌≡◌, ℕ, ◌+◌, ◌<◌, ◌≤◌, List, [], ◌∷◌, length, ◌≢◌, slice_index_or}
+use Rattle.std.specs.Prelude.{◌≡◌, ℕ, ◌<◌, List, [], ◌∷◌, length, ◌≢◌, slice_index_or}
 use Rattle.machines.specs.Words.{Word, Bytes}
 use Rattle.machines.specs.Machines.{run}
 use Rattle.machines.specs.Minimal.{Numbered}

@@ -1,4 +1,7 @@
 // Words and tables as such: what this crate proves knows nothing of patterns.
+
+#![tactic(auto)]
+
 pub mod expand;
 pub mod inside;
 pub mod laws;

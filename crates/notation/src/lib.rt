@@ -1,4 +1,7 @@
 // The readable form of pattern lists: a text to a list's bytes. docs/NOTATION.md has the grammar.
+
+#![tactic(auto)]
+
 ghost use Rattle.std.specs.Prelude.{IfOk};
 ghost use Rattle.notation.specs.Promises.{Notated, NotationRead};
 

@@ -1,4 +1,7 @@
 // Each kind of part of a pattern: what must be told apart at its top, and its finished table from those of its parts.
+
+#![tactic(auto)]
+
 pub mod bytes;
 pub mod distinguish;
 pub mod leaf;

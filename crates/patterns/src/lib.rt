@@ -1,4 +1,7 @@
 // Patterns over bytes, lists of them, and what a search for a list must say.
+
+#![tactic(auto)]
+
 ghost use Rattle.patterns.specs.Cases.{WorkedCases};
 
 pub mod direct;

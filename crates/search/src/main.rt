@@ -1,4 +1,7 @@
 // Searches a text for the patterns of a list and prints for each the places after which it ends.
+
+#![tactic(auto)]
+
 mod printing;
 
 use anyhow::anyhow;

@@ -1,6 +1,9 @@
 // How the time of exploring and refining grows with the rows: the window over the last letters, for 64 to 4,096 rows. Without an
 // argument each is done once and only what was found is printed. With one, each is done a hundred times and the microseconds of all
 // turns are printed too, so that they can be held to what a clock outside says of the whole run.
+
+#![tactic(auto)]
+
 mod window;
 
 use exploration::explore::explore;

@@ -1,5 +1,8 @@
 // Cases that are run: worked out by hand, and not taken from what a program printed. They are this program's tests; the program
 // itself says where the three patterns of the worked example end in all words of a and b of up to four bytes.
+
+#![tactic(auto)]
+
 #[cfg(test)]
 mod exploring;
 #[cfg(test)]

@@ -7,8 +7,8 @@ pub loop-i-init : goal.loop-i-init
 loop-i-init c = expanded_none
 
 pub loop-i-preserved : goal.loop-i-preserved
-loop-i-preserved c = expanded_more c.expand-row.new.row (λ b l. omega (arith, c.requires.within b l)) (omega arith)
-    (c.expand-row.auto.row ∙ row_long c.loop-i.i c.loop-i.table (omega arith)) c.expand-row.ensures c.loop-i.invariant
+loop-i-preserved c = expanded_more c.expand_row.new.row (λ b l. omega (arith, c.requires.within b l)) (omega arith)
+    (c.expand_row.auto.row ∙ row_long c.loop-i.i c.loop-i.table (omega arith)) c.expand_row.ensures c.loop-i.invariant
 
 pub returns : goal.returns
 returns c = expanded_all (omega arith) c.loop-i.invariant

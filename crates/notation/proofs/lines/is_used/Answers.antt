@@ -19,7 +19,7 @@ loop-other-preserved c =
     let names = c.args.names.now in
     let i = c.loop-other.other-index in (
       (each_next (Within text) names i (record { start = 0; end = 0 }) c.loop-other-test.true c.loop-other.invariant.0).1,
-      λ h. c.loop-other.invariant.1 (each_back (Unlike text c.args.name) names i _ c.loop-other-test.true (c.is-same.ensures c.if-is-same.false) h),
+      λ h. c.loop-other.invariant.1 (each_back (Unlike text c.args.name) names i _ c.loop-other-test.true (c.is_same.ensures c.if-is-same.false) h),
     )
 
 pub returns : goal.returns

@@ -10,12 +10,12 @@ words-requires c = part_within c.args.second.at c.args.tables.now c.requires.sec
 pub returns-in-default : goal.returns-in-default
 returns-in-default c = λ p q F G.
     let n = c.args.second.rows in
-    let D = dead_words c.words.ensures c.dead-row-dead.ensures in
+    let D = dead_words c.words.ensures c.dead_row-dead.ensures in
     step_many (seq_keyed (n / 32 + 1) c.requires.columns.columns F G D (set_room n)) c.in-default.ensures
 
 pub returns : goal.returns
 returns c = λ p q F G.
     let n = c.args.second.rows in
     let C = c.requires.columns.columns in
-    let D = dead_words c.words.ensures c.dead-row-dead.ensures in
+    let D = dead_words c.words.ensures c.dead_row-dead.ensures in
     step_done (seq_keyed (n / 32 + 1) C F G D (set_room n)) (seq_says (n / 32 + 1) C F G D (set_room n)) C c.in-Some.ensures c.quotient.ensures

@@ -20,16 +20,16 @@ overflow-shl-bits c = collecting_room c.loop-at.invariant c.loop-at-test.true
 pub loop-at-smaller : goal.loop-at-smaller
 loop-at-smaller c =
     let here = collecting_there c.loop-at.invariant c.loop-at-test.true in
-    omega (arith, pattern_later here.here, c.pattern-behind-at.ensures here.pattern here.stop here.here)
+    omega (arith, pattern_later here.here, c.pattern_behind-at.ensures here.pattern here.stop here.here)
 
 pub loop-at-preserved : goal.loop-at-preserved
 loop-at-preserved c =
-    collecting_more c.if-ends-after.bits c.ends-after.result c.pattern-behind-at.result c.loop-at.invariant c.loop-at-test.true c.ends-after.ensures
+    collecting_more c.if-ends-after.bits c.ends_after.result c.pattern_behind-at.result c.loop-at.invariant c.loop-at-test.true c.ends_after.ensures
     (elim c.if-ends-after.branch [
       | then-ends-after v ↦ v.bits-is ∙ bit_added c.loop-at.bits c.loop-at.index c.loop-at.invariant.small (collecting_room c.loop-at.invariant c.loop-at-test.true) ∙ with_bit c.loop-at.bits c.loop-at.index (sym v.if-ends-after.true)
       | else-ends-after v ↦ v.bits-is ∙ bit_left c.loop-at.bits c.loop-at.index ∙ with_bit c.loop-at.bits c.loop-at.index (sym v.if-ends-after.false)
     ])
-    c.pattern-behind-at.ensures
+    c.pattern_behind-at.ensures
   where
     with_bit : (bits index : ℕ) {x y : Bool} → x ≡ y → bits + bit x * 2 ^ index ≡ bits + bit y * 2 ^ index
     with_bit bits index e = ap (λ x. bits + bit x * 2 ^ index) e

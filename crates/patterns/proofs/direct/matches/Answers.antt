@@ -26,7 +26,7 @@ pattern-behind-at-requires c =
 pub loop-before-preserved : goal.loop-before-preserved
 loop-before-preserved c =
     let l = c.in-Some.ensures.says in
-    passing_more l.0 c.pattern-behind-at.result c.loop-before.invariant l.1 (omega (arith, l.2)) c.pattern-behind-at.ensures
+    passing_more l.0 c.pattern_behind-at.result c.loop-before.invariant l.1 (omega (arith, l.2)) c.pattern_behind-at.ensures
 
 pub matches-at-requires : goal.matches-at-requires
 matches-at-requires c =
@@ -39,4 +39,4 @@ returns c =
     let l = c.in-Some.ensures.says in
     let n = passing_next l.0 c.loop-before.invariant l.1 (omega (arith, l.2)) in
     let e : c.loop-before.-before ≡ c.args.index = omega arith in
-    record { says = (n.ps, n.pattern, n.list, ap (nth n.ps) (sym e) ∙ n.numbered, c.matches-at.ensures n.pattern n.stop n.here); meaning = meaning }
+    record { says = (n.ps, n.pattern, n.list, ap (nth n.ps) (sym e) ∙ n.numbered, c.matches_at.ensures n.pattern n.stop n.here); meaning = meaning }

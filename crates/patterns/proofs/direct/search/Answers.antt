@@ -16,7 +16,7 @@ pub bits-after-requires : goal.bits-after-requires
 bits-after-requires c = let l = c.in-Some.ensures.says in record { patterns = l.0; here = l.1 }
 
 pub loop-i-preserved : goal.loop-i-preserved
-loop-i-preserved c = searching_more _ c.loop-i-test.true (omega arith) c.bits-after.ensures c.loop-i.invariant
+loop-i-preserved c = searching_more _ c.loop-i-test.true (omega arith) c.bits_after.ensures c.loop-i.invariant
 
 pub returns : goal.returns
 returns c = let l = c.in-Some.ensures.says in record { says = (l.0, l.1, searching_all (omega arith) c.loop-i.invariant l.0 l.1, c.loop-i.invariant.beyond); meaning = meaning }

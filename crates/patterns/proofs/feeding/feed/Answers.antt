@@ -7,14 +7,14 @@ pub returns-then-not-is-table : goal.returns-then-not-is-table
 returns-then-not-is-table c = record { says = search rules; pieces = pieces; fed = in_pieces }
 
 pub new-requires : goal.new-requires
-new-requires c = c.is-table.ensures.0 c.if-not-is-table.false
+new-requires c = c.is_table.ensures.0 c.if-not-is-table.false
 
 pub feed-valid-requires : goal.feed-valid-requires
 feed-valid-requires c = omega (arith, c.new.ensures.0)
 
 pub returns : goal.returns
 returns c = record {
-  says = fed_moved c.new.ensures.0 c.new.ensures.1 c.args.row c.args.piece.now c.args.ends.now c.feed-valid.new.ends c.feed-valid.result c.feed-valid.ensures;
+  says = fed_moved c.new.ensures.0 c.new.ensures.1 c.args.row c.args.piece.now c.args.ends.now c.feed_valid.new.ends c.feed_valid.result c.feed_valid.ensures;
   pieces = pieces;
   fed = in_pieces;
 }

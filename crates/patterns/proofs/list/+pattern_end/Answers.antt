@@ -23,9 +23,9 @@ returns-in-0 t c = end_leaf (node_to c.width.result c.in-Some.ensures c.width.en
 
 pub returns-in-1 : goal.returns-in-1
 returns-in-1 t c =
-    end_one (node_to c.width.result c.in-Some.ensures c.width.ensures) c.pattern-end.result (sym c.arity.ensures ∙ c.in-1.is) c.pattern-end.ensures
+    end_one (node_to c.width.result c.in-Some.ensures c.width.ensures) c.pattern_end.result (sym c.arity.ensures ∙ c.in-1.is) c.pattern_end.ensures
 
 pub returns-in-Some-pattern-end : goal.returns-in-Some-pattern-end
 returns-in-Some-pattern-end t c =
-    end_two (node_to c.width.result c.in-Some.ensures c.width.ensures) c.in-Some-pattern-end.second c.pattern-end-in-default-arity-2.result (omega (arith, arity_most c.in-Some.node))
-    c.in-Some-pattern-end.ensures c.pattern-end-in-default-arity-2.ensures
+    end_two (node_to c.width.result c.in-Some.ensures c.width.ensures) c.in-Some-pattern-end.second c.pattern_end-in-default-arity-2.result (omega (arith, arity_most c.in-Some.node))
+    c.in-Some-pattern-end.ensures c.pattern_end-in-default-arity-2.ensures

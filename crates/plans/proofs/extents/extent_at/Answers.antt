@@ -24,4 +24,4 @@ returns-in-default-arity c =
     extent_two r c.requires.short (omega (arith, arity_most c.in-Some.node))
     (extent_written _ _ _ c.requires.behind (omega (arith, node_later r)) c.recorded-first.ensures.end c.recorded-first.ensures.needed)
     (λ l. extent_written _ _ _ c.requires.behind (omega arith) c.recorded-second.ensures.end c.recorded-second.ensures.needed)
-    c.of-both.ensures
+    c.of_both.ensures

@@ -6,4 +6,4 @@ pub loop-at-init : goal.loop-at-init
 loop-at-init c = measured_none _ _ _ _ (omega arith)
 
 pub loop-at-preserved : goal.loop-at-preserved
-loop-at-preserved c = measured_more c.loop-at.invariant (omega arith) c.extent-at-here.ensures (omega arith) (omega arith)
+loop-at-preserved c = measured_more c.loop-at.invariant (omega arith) c.extent_at-here.ensures (omega arith) (omega arith)

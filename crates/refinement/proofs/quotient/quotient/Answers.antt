@@ -30,7 +30,7 @@ loop-i-preserved c =
     let N = at c.number-count.new.names in
     elim c.if-block-i.branch [
       | then-block-i w ↦ subst (λ z. Images c.args.columns (k + 1) c.args.raw.now z B N) (sym w.table-is)
-          (images_more c.args.columns c.args.rows c.number-count.result k _ _ _ B N c.requires.raw.few c.number-count.ensures c.loop-i-test.true w.if-block-i.true w.put-row.ensures c.loop-i.invariant)
+          (images_more c.args.columns c.args.rows c.number-count.result k _ _ _ B N c.requires.raw.few c.number-count.ensures c.loop-i-test.true w.if-block-i.true w.put_row.ensures c.loop-i.invariant)
       | else-block-i w ↦ subst (λ z. Images c.args.columns (k + 1) c.args.raw.now z B N) (sym w.table-is)
           (images_past c.args.columns k _ _ B N w.if-block-i.false c.loop-i.invariant)
     ]

@@ -7,7 +7,7 @@ pub rounds-init : goal.rounds-init
 rounds-init c = blocks_start _ _ _ _ (c.fill.ensures.after (λ y e. e) ∙ ap (λ z. replicate z 0) c.requires.block)
 
 pub loop-i-preserved : goal.loop-i-preserved
-loop-i-preserved c = finer_more _ _ _ _ _ _ (omega arith) c.loop-i.invariant c.least-alike.ensures
+loop-i-preserved c = finer_more _ _ _ _ _ _ (omega arith) c.loop-i.invariant c.least_alike.ensures
 
 pub rounds-smaller : goal.rounds-smaller
 rounds-smaller c =

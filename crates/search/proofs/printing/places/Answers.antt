@@ -12,10 +12,10 @@ loop-i-preserved c =
       | then-is-set+in-ok-push w ↦
           ap (λ f. vec_items f ++ rest) w.found-is
           ∙ ap (λ (xs : List ℕ). xs ++ rest) (pushed ((c.loop-i.i + 1) ∷ []) refl w.in-ok-push.was w.push.ensures.items)
-          ∙ places_set c.args.index c.args.ends.now c.loop-i.i (vec_items c.loop-i.found) c.loop-i.invariant c.loop-i-test.true (sym c.is-set.ensures ∙ w.if-is-set.true)
+          ∙ places_set c.args.index c.args.ends.now c.loop-i.i (vec_items c.loop-i.found) c.loop-i.invariant c.loop-i-test.true (sym c.is_set.ensures ∙ w.if-is-set.true)
       | else-is-set w ↦
           ap (λ f. vec_items f ++ rest) w.found-is
-          ∙ places_unset c.args.index c.args.ends.now c.loop-i.i (vec_items c.loop-i.found) c.loop-i.invariant c.loop-i-test.true (sym c.is-set.ensures ∙ w.if-is-set.false)
+          ∙ places_unset c.args.index c.args.ends.now c.loop-i.i (vec_items c.loop-i.found) c.loop-i.invariant c.loop-i-test.true (sym c.is_set.ensures ∙ w.if-is-set.false)
     ]
 
 pub returns : goal.returns

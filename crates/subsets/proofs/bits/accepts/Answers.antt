@@ -4,11 +4,11 @@ use Rattle.subsets.proofs.Moves.{accepts_start, accepts_more, accepts_to}
 use Rattle.subsets.proofs.bits.accepts.Goals as goal
 
 pub loop-q-init : goal.loop-q-init
-loop-q-init c = let N = c.next-in-q.ensures in (N.few, N.here, accepts_start _ _ c.args.rows _ N)
+loop-q-init c = let N = c.next_in-q.ensures in (N.few, N.here, accepts_start _ _ c.args.rows _ N)
 
 pub loop-q-preserved : goal.loop-q-preserved
 loop-q-preserved c =
-    let N = c.next-in-q-in-loop-q.ensures in
+    let N = c.next_in-q-in-loop-q.ensures in
     (N.few, N.here, accepts_more c.args.table.now c.args.words.now c.args.rows c.loop-q.q _ c.loop-q.invariant.2 c.if-table-q-eq1.false N)
 
 pub returns-then-table-q-eq1 : goal.returns-then-table-q-eq1

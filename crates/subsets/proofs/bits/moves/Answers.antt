@@ -6,7 +6,7 @@ use Rattle.subsets.proofs.bits.moves.Goals as goal
 
 pub loop-q-init : goal.loop-q-init
 loop-q-init c =
-    let N = c.next-in-q.ensures in
+    let N = c.next_in-q.ensures in
     let long : length c.args.to.now ≡ length c.clear.new.words = omega (arith, c.clear.auto.words) in
     (N.few, N.here, moved_start _ _ _ _ _ c.args.rows _ _ (c.clear.ensures ∙ ap (λ z. replicate z 0) long) N)
 
@@ -15,9 +15,9 @@ overflow-add-q-in-loop-q c = omega arith
 
 pub loop-q-preserved : goal.loop-q-preserved
 loop-q-preserved c =
-    let N = c.next-in-q-in-loop-q.ensures in
+    let N = c.next_in-q-in-loop-q.ensures in
     let v = c.loop-q.invariant in
-    (N.few, N.here, moved_more _ _ _ _ _ c.args.rows c.loop-q.q _ _ _ (v.1 c.loop-q-test.true) v.2 c.add-live.ensures N)
+    (N.few, N.here, moved_more _ _ _ _ _ c.args.rows c.loop-q.q _ _ _ (v.1 c.loop-q-test.true) v.2 c.add_live.ensures N)
 
 pub returns : goal.returns
 returns c =

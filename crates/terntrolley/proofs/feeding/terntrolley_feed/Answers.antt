@@ -4,6 +4,6 @@ pub returns : goal.returns
 returns c = record {
   fed = c.feed-fed.result;
   says = c.feed-fed.ensures.says;
-  code = c.hand-out.ensures.code;
-  next = c.hand-out.ensures.next;
+  code = c.hand_out.ensures.code;
+  next = c.hand_out.ensures.next;
 }

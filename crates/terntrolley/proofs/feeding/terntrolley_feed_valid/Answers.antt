@@ -3,8 +3,8 @@ use Rattle.terntrolley.proofs.feeding.terntrolley_feed_valid.Goals as goal
 
 pub returns : goal.returns
 returns c = record {
-  fed = c.feed-valid-fed.result;
-  says = fed_moved c.new.ensures.0 c.new.ensures.1 c.args.row c.args.piece.now c.args.ends.now c.feed-valid-fed.new.ends c.feed-valid-fed.result c.feed-valid-fed.ensures;
-  code = c.hand-out.ensures.code;
-  next = c.hand-out.ensures.next;
+  fed = c.feed_valid-fed.result;
+  says = fed_moved c.new.ensures.0 c.new.ensures.1 c.args.row c.args.piece.now c.args.ends.now c.feed_valid-fed.new.ends c.feed_valid-fed.result c.feed_valid-fed.ensures;
+  code = c.hand_out.ensures.code;
+  next = c.hand_out.ensures.next;
 }

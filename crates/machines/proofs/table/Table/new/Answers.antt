@@ -1,5 +1,5 @@
 use Rattle.machines.proofs.Cells.{sound_inside}
 use Rattle.machines.proofs.table.Table.new.Goals as goal
 
-pub invariant-of-result : goal.invariant-of-result
-invariant-of-result c = (c.requires.long, (sound_inside _ _ c.requires, tt))
+pub invariant_of-result : goal.invariant_of-result
+invariant_of-result c = record { long = c.requires.long; inside = sound_inside _ _ c.requires }

@@ -4,10 +4,10 @@ use Rattle.notation.proofs.scan.Reader.+put_runs.Goals as goal
 
 pub returns-in-default : goal.returns-in-default
 returns-in-default t c =
-    IfOk-weaker c.put-range.result _ _ (λ _ h. added_range c.args.low c.run-end-high.result c.run-end-high.ensures.1 c.run-end-high.ensures.0 h) c.put-range.ensures
+    IfOk-weaker c.put_range.result _ _ (λ _ h. added_range c.args.low c.run_end-high.result c.run_end-high.ensures.1 c.run_end-high.ensures.0 h) c.put_range.ensures
 
 pub returns : goal.returns
 returns t c =
-    IfOk-weaker c.put-runs.result _ _
-    (λ _ h. added_front unions c.args.low c.run-end-high.result c.run-end-high.ensures.1 c.run-end-high.ensures.0 c.in-ok-put.ensures c.in-ok-put-range.ensures h)
-    c.put-runs.ensures
+    IfOk-weaker c.put_runs.result _ _
+    (λ _ h. added_front unions c.args.low c.run_end-high.result c.run_end-high.ensures.1 c.run_end-high.ensures.0 c.in-ok-put.ensures c.in-ok-put-range.ensures h)
+    c.put_runs.ensures

@@ -8,4 +8,4 @@ pub returns-in-default : goal.returns-in-default
 returns-in-default c = IfOk-weaker c.put.result _ _ (λ _ h. record { past = c.in-ok-class.ensures; added = added nothing refl h }) c.put.ensures
 
 pub returns : goal.returns
-returns c = IfOk-weaker c.put-runs.result _ _ (λ _ h. record { past = c.in-ok-class.ensures; added = h }) c.put-runs.ensures
+returns c = IfOk-weaker c.put_runs.result _ _ (λ _ h. record { past = c.in-ok-class.ensures; added = h }) c.put_runs.ensures

@@ -11,4 +11,4 @@ returns-then-accept c =
 
 pub returns : goal.returns
 returns c =
-    IfOk-weaker c.literal-rest.result _ _ (λ _ h. record { past = past_past c.if-not-step-over.ensures (past_same c.if-accept.ensures h.past); added = h.added }) c.literal-rest.ensures
+    IfOk-weaker c.literal_rest.result _ _ (λ _ h. record { past = past_past c.if-not-step-over.ensures (past_same c.if-accept.ensures h.past); added = h.added }) c.literal_rest.ensures

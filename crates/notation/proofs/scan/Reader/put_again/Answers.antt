@@ -8,10 +8,10 @@ put-before-requires-2 c = omega (arith, c.requires, c.len-end.ensures, c.in-ok-e
 
 pub returns : goal.returns
 returns c =
-    let put = c.put-before-2.ensures in
+    let put = c.put_before-2.ensures in
     record {
-      long = IfOk-weaker c.put-before-2.result _ _
+      long = IfOk-weaker c.put_before-2.result _ _
           (λ _ h. omega (arith, h, c.requires, c.len-end.ensures, c.in-ok-extend-from-within.ensures.len, c.in-ok-put-before.ensures.len)) put.len;
-      keeps = made_both c.put-before-2.result put.items put.short
+      keeps = made_both c.put_before-2.result put.items put.short
           (keeps_again c.args.start c.len-end.result (c.len-end.ensures ∙ c.args.list.now.ok.0) c.in-ok-extend-from-within.ensures.items c.in-ok-put-before.ensures.items);
     }
