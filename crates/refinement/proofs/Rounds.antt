@@ -8,7 +8,7 @@ use Rattle.std.proofs.lemmas.Bool.{cases_eq, cases_order}
 use Rattle.machines.specs.Words.{Word, Bytes}
 use Rattle.machines.specs.Machines.{run}
 use Rattle.machines.specs.Columns.{Columns, cell, shown, leads}
-use Rattle.machines.specs.Minimal.{Like, Told}
+use Rattle.machines.specs.Minimal.{Told}
 use Rattle.machines.specs.Inside.{Inside}
 use Rattle.refinement.specs.Refining.{at, Same, Other, Found, Blocks, Refined}
 

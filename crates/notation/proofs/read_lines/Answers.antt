@@ -6,9 +6,9 @@ use Rattle.notation.proofs.read_lines.Goals as goal
 
 pub loop-reader-preserved : goal.loop-reader-preserved
 loop-reader-preserved c =
-    let h = c.in-ok-name.ensures in
+    let h = c.in_ok-name.ensures in
     let text = ap (λ r. r.now) c.next_line.ensures.same ∙ c.loop-reader.invariant.0 in (
       ap (λ r. r.now) h.past.same ∙ text,
-      subst (λ (ns : List Span). Notated c.args.text.now (vec_items c.line.new.list) ns) (sym c.in-ok-push.ensures.items)
-          (notated_line text c.as-slice.ensures.value c.loop-reader.invariant.1 h),
+      subst (λ (ns : List Span). Notated c.args.text.now (vec_items c.line.new.list) ns) (sym c.in_ok-push.ensures.items)
+          (notated_line text c.as_slice.ensures.value c.loop-reader.invariant.1 h),
     )

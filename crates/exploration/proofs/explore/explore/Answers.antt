@@ -18,9 +18,9 @@ settle-requires g c =
       indexed = indexed_none 4096 _ _ _ (cleared ∙ ap (λ z. replicate z 0) c.requires.heads);
     }
 
-pub returns-in-default : goal.returns-in-default
-returns-in-default g c = record {
-  says = none_fits (g.S.System.next c.args.sys.now) (g.S.System.begin c.args.sys.now) c.columns-columns.ensures.columns c.in-default.ensures.settled.0;
+pub returns-in_default : goal.returns-in_default
+returns-in_default g c = record {
+  says = none_fits (g.S.System.next c.args.sys.now) (g.S.System.begin c.args.sys.now) c.columns-columns.ensures.columns c.in_default.ensures.settled.0;
   rest = refl;
 }
 

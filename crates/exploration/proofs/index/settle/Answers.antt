@@ -20,7 +20,7 @@ put-requires c = (omega (arith, next_row c.args.count c.args.size, row_within c.
 
 pub returns : goal.returns
 returns c = record {
-  settled = record { within = omega arith; room = omega arith; here = c.put.ensures.here; before = c.put.ensures.before; fresh = λ _. c.in-default.ensures };
+  settled = record { within = omega arith; room = omega arith; here = c.put.ensures.here; before = c.put.ensures.before; fresh = λ _. c.in_default.ensures };
   indexed = (
     (λ h. absurd (omega arith)),
     λ _. indexed_more 4096 (key_at c.args.keys.now c.args.size) c.args.count c.args.heads.now c.args.links.now c.requires.indexed

@@ -7,8 +7,8 @@ use Rattle.notation.proofs.lines.is_used.Goals as goal
 pub loop-other-init : goal.loop-other-init
 loop-other-init c = (c.requires.names, λ h. h)
 
-pub is-same-requires : goal.is-same-requires
-is-same-requires c = record {
+pub is_same-requires : goal.is_same-requires
+is_same-requires c = record {
   a = (each_next (Within c.args.text.now) c.args.names.now c.loop-other.other-index _ c.loop-other-test.true c.loop-other.invariant.0).0;
   b = c.requires.name;
 }
@@ -19,7 +19,7 @@ loop-other-preserved c =
     let names = c.args.names.now in
     let i = c.loop-other.other-index in (
       (each_next (Within text) names i (record { start = 0; end = 0 }) c.loop-other-test.true c.loop-other.invariant.0).1,
-      λ h. c.loop-other.invariant.1 (each_back (Unlike text c.args.name) names i _ c.loop-other-test.true (c.is_same.ensures c.if-is-same.false) h),
+      λ h. c.loop-other.invariant.1 (each_back (Unlike text c.args.name) names i _ c.loop-other-test.true (c.is_same.ensures c.if-is_same.false) h),
     )
 
 pub returns : goal.returns

@@ -7,11 +7,11 @@ use Rattle.parts.proofs.steps.sequence.Goals as goal
 pub words-requires : goal.words-requires
 words-requires c = part_within c.args.second.at c.args.tables.now c.requires.second
 
-pub returns-in-default : goal.returns-in-default
-returns-in-default c = λ p q F G.
+pub returns-in_default : goal.returns-in_default
+returns-in_default c = λ p q F G.
     let n = c.args.second.rows in
     let D = dead_words c.words.ensures c.dead_row-dead.ensures in
-    step_many (seq_keyed (n / 32 + 1) c.requires.columns.columns F G D (set_room n)) c.in-default.ensures
+    step_many (seq_keyed (n / 32 + 1) c.requires.columns.columns F G D (set_room n)) c.in_default.ensures
 
 pub returns : goal.returns
 returns c = λ p q F G.

@@ -5,19 +5,19 @@ use Rattle.patterns.proofs.Cutting.{Here, Part}
 use Rattle.patterns.proofs.direct.+matches_at_sequence_matches_star_matches.Given as goal
 
 -- what is left of the list and of the word; a repetition and a sequence come before their parts
-abbrev pub decreases-matches-at : goal.decreases-matches-at
-decreases-matches-at l = 2 * (length l.list.now - l.at) + 2 * length l.word.now
+abbrev pub decreases-matches_at : goal.decreases-matches_at
+decreases-matches_at l = 2 * (length l.list.now - l.at) + 2 * length l.word.now
 
-abbrev pub decreases-sequence-matches : goal.decreases-sequence-matches
-decreases-sequence-matches l = 2 * (length l.list.now - l.first) + 2 * length l.word.now + 1
+abbrev pub decreases-sequence_matches : goal.decreases-sequence_matches
+decreases-sequence_matches l = 2 * (length l.list.now - l.first) + 2 * length l.word.now + 1
 
-abbrev pub decreases-star-matches : goal.decreases-star-matches
-decreases-star-matches l = 2 * (length l.list.now - l.at) + 2 * length l.word.now + 1
+abbrev pub decreases-star_matches : goal.decreases-star_matches
+decreases-star_matches l = 2 * (length l.list.now - l.at) + 2 * length l.word.now + 1
 
 -- no cut so far serves
-abbrev pub invariant-sequence-matches-loop-cut : goal.invariant-sequence-matches-loop-cut
-invariant-sequence-matches-loop-cut l =
+abbrev pub invariant-sequence_matches-loop-cut : goal.invariant-sequence_matches-loop-cut
+invariant-sequence_matches-loop-cut l =
     (p q : Pattern) (stop end : ℕ) → PatternAt l.list l.first p stop → PatternAt l.list l.second q end → (k : ℕ) → k < l.cut → Here (matches p) (matches q) l.word k ≡ false
 
-abbrev pub invariant-star-matches-loop-cut : goal.invariant-star-matches-loop-cut
-invariant-star-matches-loop-cut l = (p : Pattern) (stop : ℕ) → PatternAt l.list l.at p stop → (k : ℕ) → k < l.cut → 0 < k → Part p l.word k ≡ false
+abbrev pub invariant-star_matches-loop-cut : goal.invariant-star_matches-loop-cut
+invariant-star_matches-loop-cut l = (p : Pattern) (stop : ℕ) → PatternAt l.list l.at p stop → (k : ℕ) → k < l.cut → 0 < k → Part p l.word k ≡ false

@@ -6,8 +6,8 @@ use Rattle.patterns.proofs.Cutting.{meaning}
 use Rattle.patterns.proofs.Ending.{passing_none, passing_more, passing_next}
 use Rattle.patterns.proofs.direct.matches.Goals as goal
 
-pub returns-in-default : goal.returns-in-default
-returns-in-default c = record { says = λ ps p o e. c.in-default.ensures.says ps o; meaning = meaning }
+pub returns-in_default : goal.returns-in_default
+returns-in_default c = record { says = λ ps p o e. c.in_default.ensures.says ps o; meaning = meaning }
 
 pub returns-then-index-count : goal.returns-then-index-count
 returns-then-index-count c =
@@ -17,8 +17,8 @@ returns-then-index-count c =
 pub loop-before-init : goal.loop-before-init
 loop-before-init c = passing_none c.in-Some.ensures.says.1
 
-pub pattern-behind-at-requires : goal.pattern-behind-at-requires
-pattern-behind-at-requires c =
+pub pattern_behind-at-requires : goal.pattern_behind-at-requires
+pattern_behind-at-requires c =
     let l = c.in-Some.ensures.says in
     let n = passing_next l.0 c.loop-before.invariant l.1 (omega (arith, l.2)) in
     record { pattern = n.pattern; stop = n.stop; here = n.here }
@@ -28,8 +28,8 @@ loop-before-preserved c =
     let l = c.in-Some.ensures.says in
     passing_more l.0 c.pattern_behind-at.result c.loop-before.invariant l.1 (omega (arith, l.2)) c.pattern_behind-at.ensures
 
-pub matches-at-requires : goal.matches-at-requires
-matches-at-requires c =
+pub matches_at-requires : goal.matches_at-requires
+matches_at-requires c =
     let l = c.in-Some.ensures.says in
     let n = passing_next l.0 c.loop-before.invariant l.1 (omega (arith, l.2)) in
     record { pattern = n.pattern; stop = n.stop; here = n.here }
@@ -38,5 +38,5 @@ pub returns : goal.returns
 returns c =
     let l = c.in-Some.ensures.says in
     let n = passing_next l.0 c.loop-before.invariant l.1 (omega (arith, l.2)) in
-    let e : c.loop-before.-before ≡ c.args.index = omega arith in
+    let e : c.loop-before._before ≡ c.args.index = omega arith in
     record { says = (n.ps, n.pattern, n.list, ap (nth n.ps) (sym e) ∙ n.numbered, c.matches_at.ensures n.pattern n.stop n.here); meaning = meaning }

@@ -26,5 +26,5 @@ returns-in-6 c = node_read_at _ _ 6 _ c.if-at-list.false c.in-6.is refl
 pub returns-in-7 : goal.returns-in-7
 returns-in-7 c = node_read_at _ _ 7 _ c.if-at-list.false c.in-7.is refl
 
-pub returns-in-default : goal.returns-in-default
-returns-in-default c = node_read_other _ _ c.if-at-list.false (omega arith)
+pub returns-in_default : goal.returns-in_default
+returns-in_default c = node_read_other _ _ c.if-at-list.false (omega arith)

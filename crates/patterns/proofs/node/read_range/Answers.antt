@@ -9,4 +9,4 @@ pub returns-then-high-low : goal.returns-then-high-low
 returns-then-high-low c = node_read_turned _ _ c.requires.there c.requires.range (omega arith) (omega arith)
 
 pub returns : goal.returns
-returns c = node_read_range _ _ c.requires.there c.requires.range (omega arith) (omega (arith, c.type-inv.list (c.args.at + 2))) (omega arith)
+returns c = node_read_range _ _ c.requires.there c.requires.range (omega arith) (omega (arith, c.type_inv.list (c.args.at + 2))) (omega arith)

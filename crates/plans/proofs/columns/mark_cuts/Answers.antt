@@ -15,5 +15,5 @@ returns c =
     let e : c.loop-at.at ≡ length c.args.list.now = omega arith in
     subst (λ (n : ℕ). Marked c.args.list.now c.loop-at.cuts n) e c.loop-at.invariant
 
-pub loop-at-preserved-in-default : goal.loop-at-preserved-in-default
-loop-at-preserved-in-default c = marked_past c.loop-at.invariant c.in-default.ensures
+pub loop-at-preserved-in_default : goal.loop-at-preserved-in_default
+loop-at-preserved-in_default c = marked_past c.loop-at.invariant c.in_default.ensures

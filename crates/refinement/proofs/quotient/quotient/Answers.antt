@@ -15,8 +15,8 @@ number-count-requires c = record {
 pub loop-i-init : goal.loop-i-init
 loop-i-init c = images_none _ _ _ _ _
 
-pub put-row-requires : goal.put-row-requires
-put-row-requires c = record {
+pub put_row-requires : goal.put_row-requires
+put_row-requires c = record {
   raw = c.requires.raw;
   i = omega arith;
   names = omega arith;

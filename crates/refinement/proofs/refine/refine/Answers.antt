@@ -18,11 +18,11 @@ rounds-smaller c =
     (λ (e : c.rounds.block ≡ c.loop-i.fresh). let t = c.if-same.ensures.1 e in let z : ◌≡◌ {A = ℕ} 0 1 = cc in absurd (omega arith))
     (λ (h : sum c.rounds.block < sum c.loop-i.fresh). h)
     (sum_grows c.rounds.block c.loop-i.fresh (omega arith) (λ i l. blocks_grow _ _ _ c.requires.table _ _ c.rounds.invariant finer i (omega arith))) in
-    omega (arith, ap sum c.copy-from-slice.ensures.after)
+    omega (arith, ap sum c.copy_from_slice.ensures.after)
 
 pub rounds-preserved : goal.rounds-preserved
 rounds-preserved c =
-    subst (λ s. Blocks c.args.columns c.args.rows c.args.table.now (at s)) (sym c.copy-from-slice.ensures.after)
+    subst (λ s. Blocks c.args.columns c.args.rows c.args.table.now (at s)) (sym c.copy_from_slice.ensures.after)
     (blocks_more _ _ _ c.requires.table _ _ c.rounds.invariant (λ i l. c.loop-i.invariant i (omega arith)))
 
 pub returns : goal.returns

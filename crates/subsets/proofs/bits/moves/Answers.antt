@@ -10,8 +10,8 @@ loop-q-init c =
     let long : length c.args.to.now ≡ length c.clear.new.words = omega (arith, c.clear.auto.words) in
     (N.few, N.here, moved_start _ _ _ _ _ c.args.rows _ _ (c.clear.ensures ∙ ap (λ z. replicate z 0) long) N)
 
-pub overflow-add-q-in-loop-q : goal.overflow-add-q-in-loop-q
-overflow-add-q-in-loop-q c = omega arith
+pub overflow_add-q-in-loop-q : goal.overflow_add-q-in-loop-q
+overflow_add-q-in-loop-q c = omega arith
 
 pub loop-q-preserved : goal.loop-q-preserved
 loop-q-preserved c =

@@ -4,50 +4,50 @@ use Rattle.notation.proofs.Moving.{past_past, past_on}
 use Rattle.notation.proofs.Adding.{made_both, begun, added_infix, added_not, unions, intersections, sequences}
 use Rattle.notation.proofs.scan.Reader.+atom_conjunction_expression_group_negation_repetition_sequence.Goals as goal
 
-pub expression-put-before-requires : goal.expression-put-before-requires
-expression-put-before-requires t c = begun _ _ _ c.len-start.ensures c.args.list.now.ok.0 c.conjunction.new.list.ok.0 c.in-ok-conjunction.ensures.added
+pub expression-put_before-requires : goal.expression-put_before-requires
+expression-put_before-requires t c = begun _ _ _ c.len-start.ensures c.args.list.now.ok.0 c.conjunction.new.list.ok.0 c.in_ok-conjunction.ensures.added
 
 pub expression-returns : goal.expression-returns
 expression-returns t c =
-    let first = c.in-ok-conjunction.ensures in
+    let first = c.in_ok-conjunction.ensures in
     IfOk-weaker c.expression.result _ _
     (λ _ h. record {
       past = past_past first.past (past_past c.if-not-accept.ensures h.past);
-      added = added_infix unions c.len-start.result (sym (c.len-start.ensures ∙ c.args.list.now.ok.0)) first.added c.in-ok-put-before.ensures.items h.added;
+      added = added_infix unions c.len-start.result (sym (c.len-start.ensures ∙ c.args.list.now.ok.0)) first.added c.in_ok-put_before.ensures.items h.added;
     })
     c.expression.ensures
 
-pub conjunction-put-before-requires : goal.conjunction-put-before-requires
-conjunction-put-before-requires t c = begun _ _ _ c.len-start.ensures c.args.list.now.ok.0 c.sequence.new.list.ok.0 c.in-ok-sequence.ensures.added
+pub conjunction-put_before-requires : goal.conjunction-put_before-requires
+conjunction-put_before-requires t c = begun _ _ _ c.len-start.ensures c.args.list.now.ok.0 c.sequence.new.list.ok.0 c.in_ok-sequence.ensures.added
 
 pub conjunction-returns : goal.conjunction-returns
 conjunction-returns t c =
-    let first = c.in-ok-sequence.ensures in
+    let first = c.in_ok-sequence.ensures in
     IfOk-weaker c.conjunction.result _ _
     (λ _ h. record {
       past = past_past first.past (past_past c.if-not-accept.ensures h.past);
-      added = added_infix intersections c.len-start.result (sym (c.len-start.ensures ∙ c.args.list.now.ok.0)) first.added c.in-ok-put-before.ensures.items h.added;
+      added = added_infix intersections c.len-start.result (sym (c.len-start.ensures ∙ c.args.list.now.ok.0)) first.added c.in_ok-put_before.ensures.items h.added;
     })
     c.conjunction.ensures
 
-pub sequence-put-before-requires : goal.sequence-put-before-requires
-sequence-put-before-requires t c = begun _ _ _ c.len-start.ensures c.args.list.now.ok.0 c.negation.new.list.ok.0 c.in-ok-negation.ensures.added
+pub sequence-put_before-requires : goal.sequence-put_before-requires
+sequence-put_before-requires t c = begun _ _ _ c.len-start.ensures c.args.list.now.ok.0 c.negation.new.list.ok.0 c.in_ok-negation.ensures.added
 
 pub sequence-returns : goal.sequence-returns
 sequence-returns t c =
-    let first = c.in-ok-negation.ensures in
+    let first = c.in_ok-negation.ensures in
     IfOk-weaker c.sequence.result _ _
     (λ _ h. record {
       past = past_past first.past h.past;
-      added = added_infix sequences c.len-start.result (sym (c.len-start.ensures ∙ c.args.list.now.ok.0)) first.added c.in-ok-put-before.ensures.items h.added;
+      added = added_infix sequences c.len-start.result (sym (c.len-start.ensures ∙ c.args.list.now.ok.0)) first.added c.in_ok-put_before.ensures.items h.added;
     })
     c.sequence.ensures
 
 pub negation-returns : goal.negation-returns
 negation-returns t c =
     IfOk-weaker c.negation.result _ _
-    (λ _ h. record { past = past_past c.if-not-accept.ensures h.past; added = added_not c.in-ok-put.ensures h.added })
+    (λ _ h. record { past = past_past c.if-not-accept.ensures h.past; added = added_not c.in_ok-put.ensures h.added })
     c.negation.ensures
 
 pub repetition-repetitions-requires : goal.repetition-repetitions-requires
-repetition-repetitions-requires t c = begun _ _ _ c.len-start.ensures c.args.list.now.ok.0 c.atom.new.list.ok.0 c.in-ok-atom.ensures.added
+repetition-repetitions-requires t c = begun _ _ _ c.len-start.ensures c.args.list.now.ok.0 c.atom.new.list.ok.0 c.in_ok-atom.ensures.added

@@ -4,8 +4,8 @@ use Rattle.patterns.specs.Patterns.{nothing}
 use Rattle.notation.proofs.Adding.{added}
 use Rattle.notation.proofs.scan.Reader.class.Goals as goal
 
-pub returns-in-default : goal.returns-in-default
-returns-in-default c = IfOk-weaker c.put.result _ _ (λ _ h. record { past = c.in-ok-class.ensures; added = added nothing refl h }) c.put.ensures
+pub returns-in_default : goal.returns-in_default
+returns-in_default c = IfOk-weaker c.put.result _ _ (λ _ h. record { past = c.in_ok-class.ensures; added = added nothing refl h }) c.put.ensures
 
 pub returns : goal.returns
-returns c = IfOk-weaker c.put_runs.result _ _ (λ _ h. record { past = c.in-ok-class.ensures; added = h }) c.put_runs.ensures
+returns c = IfOk-weaker c.put_runs.result _ _ (λ _ h. record { past = c.in_ok-class.ensures; added = h }) c.put_runs.ensures

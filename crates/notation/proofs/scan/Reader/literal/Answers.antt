@@ -7,8 +7,8 @@ use Rattle.notation.proofs.scan.Reader.literal.Goals as goal
 
 pub returns-then-accept : goal.returns-then-accept
 returns-then-accept c =
-    IfOk-weaker c.put.result _ _ (λ _ h. record { past = past_past c.if-not-step-over.ensures c.if-accept.ensures; added = added empty refl h }) c.put.ensures
+    IfOk-weaker c.put.result _ _ (λ _ h. record { past = past_past c.if-not-step_over.ensures c.if-accept.ensures; added = added empty refl h }) c.put.ensures
 
 pub returns : goal.returns
 returns c =
-    IfOk-weaker c.literal_rest.result _ _ (λ _ h. record { past = past_past c.if-not-step-over.ensures (past_same c.if-accept.ensures h.past); added = h.added }) c.literal_rest.ensures
+    IfOk-weaker c.literal_rest.result _ _ (λ _ h. record { past = past_past c.if-not-step_over.ensures (past_same c.if-accept.ensures h.past); added = h.added }) c.literal_rest.ensures
