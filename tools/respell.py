@@ -15,7 +15,7 @@ SIGNATURE = re.compile(rf"^\s*(?:(?:abbrev|unfoldable|pub|record|data|ruleset)\s
 OF_A_GOAL = re.compile(r":\s*(goal|need|given)\.")
 IMPORT = re.compile(r"^\s*(?:ghost\s+)?(?:pub\s+)?use\s+([^\s{;]+)\.\{([^}]*)\}")
 LIBRARIES = ("Rattle.std.", "mathlib.", "Prim.", "native.", "lib.", "borrow.", "denote.", "Rattle.core.")
-OTHER = {"nth-getD": "nth_get_or", "Byte-columns": "HasByteColumns"}
+OTHER = {"nth-getD": "nth_get_or", "bit-or": "bit_bit_or", "Byte-columns": "HasByteColumns"}
 FUNCTION = re.compile(r"^\s*(?:pub\s+)?(?:unsafe\s+)?fn\s+(\w+)", re.M)
 
 

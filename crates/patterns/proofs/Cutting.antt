@@ -1,10 +1,10 @@
 -- What a sequence and a repetition match: by the places where a word is cut, and by words. Assumes nothing.
-use Rattle.std.proofs.Common.{◌≡◌, ℕ, zero, suc, ◌+◌, ◌<◌, ◌≤◌, Bool, true, false, ◌&&◌, ◌||◌, leb, ◌⊎◌, ◌↔◌, List, [], ◌∷◌, ◌++◌, length, take, drop, sym, refl, ap, ◌∙◌, inl, inr, ⊎_elim, arith, length-append, take-append-drop, length-take}
+use Rattle.std.proofs.Common.{◌≡◌, ℕ, zero, suc, ◌<◌, ◌≤◌, Bool, true, false, ◌&&◌, ◌||◌, List, [], ◌∷◌, ◌++◌, length, take, drop, sym, refl, ap, ◌∙◌, ⊎_elim, arith, length-append, take-append-drop, length-take}
 use mathlib.Core.Bool.{false≢true}
-use Rattle.std.proofs.lemmas.List.{take_at, drop_at, length-drop, append_assoc, append-nil}
-use Rattle.std.proofs.lemmas.Bool.{and_parts, and_from, or_cases, or_from, or_left, or_right, cases_eq, cases_lt, cases_Bool, le-leb}
-use Rattle.machines.specs.Words.{Word, Bytes, joined}
-use Rattle.patterns.specs.Patterns.{Pattern, range, seq, star, null, single, cut, cut_on, many, matches}
+use Rattle.std.proofs.lemmas.List.{take_at, drop_at, length-drop}
+use Rattle.std.proofs.lemmas.Bool.{and_parts, and_from, or_cases, or_from, or_left, or_right, cases_eq, cases_Bool}
+use Rattle.machines.specs.Words.{Word, joined}
+use Rattle.patterns.specs.Patterns.{Pattern, star, null, cut, cut_on, many, matches}
 use Rattle.patterns.specs.Meanings.{All, Meaning}
 
 -- by places

@@ -1,13 +1,10 @@
 -- Reading one node, and a pattern as a node with parts. Assumes nothing.
 use Rattle.std.proofs.Common.{◌≡◌, ℕ, zero, suc, ◌+◌, ◌<◌, ◌≤◌, Bool, true, false, cond, ◌&&◌, ltb, leb, List, [], ◌∷◌, ◌++◌, length, get_or, drop, Some, None, Option, sym, refl, ap, ◌∙◌, subst, arith}
-use Rattle.std.proofs.lemmas.List.{drop_more, drop_all, length-drop, append-nil, append_assoc}
+use Rattle.std.proofs.lemmas.List.{drop_more, drop_all, length-drop}
 use Rattle.std.proofs.lemmas.Bool.Decides.{nat_tests}
-use Rattle.std.proofs.lemmas.Bool.{and_parts, and_from, cases_Bool}
 use Rattle.patterns.specs.declared.node.Node.{Node}
 use Rattle.patterns.specs.declared.node.Node.TheVariants.{Nothing, Empty, Range, Sequence, Union, Intersection, Complement, Star}
-use Rattle.patterns.specs.Patterns.{Pattern, nothing, empty, range, seq, union, inter, compl, star}
-use Rattle.patterns.specs.Lists.{write, write_list, sound, sound_list}
-use Rattle.patterns.specs.Nodes.{node_bytes, node_sound, arity}
+use Rattle.patterns.specs.Nodes.{node_bytes, node_sound}
 use Rattle.patterns.specs.Promises.{NodeAt, NodeRead}
 use Rattle.patterns.proofs.Places.{stands_from}
 

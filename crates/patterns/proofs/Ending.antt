@@ -1,9 +1,9 @@
 -- Which patterns end after a text, decided by its last parts and collected as bits. Assumes nothing.
-use Rattle.std.proofs.Common.{◌≡◌, ℕ, zero, suc, ◌+◌, ◌-◌, ◌*◌, ◌%◌, ◌^◌, ◌<◌, ◌≤◌, Bool, true, false, ◌&&◌, leb, ◌⊎◌, List, [], ◌∷◌, ◌++◌, length, get_or, take, drop, set, sym, refl, ap, ◌∙◌, subst, inl, inr, ⊎_elim, mul_assoc, mul_comm, add-mul, pow-suc, add-one, arith, pow_pos}
-use mathlib.Core.Option.{some, none}
+use Rattle.std.proofs.Common.{◌≡◌, ℕ, zero, suc, ◌+◌, ◌-◌, ◌*◌, ◌%◌, ◌^◌, ◌<◌, ◌≤◌, Bool, true, false, leb, List, [], ◌∷◌, ◌++◌, length, get_or, take, drop, set, sym, refl, ap, ◌∙◌, subst, mul_assoc, add-mul, pow-suc, add-one, arith}
+use mathlib.Core.Option.{some}
 use lib.Bits.{bit_or, or_shifted_r}
 use Rattle.std.proofs.lemmas.Nat.{one_shl}
-use Rattle.std.proofs.lemmas.List.{length-drop, length_push, take_rest, at_drop_more, take_more, take_more_set, drop-set-lt, append_assoc, append-nil, drop_all, drop_more}
+use Rattle.std.proofs.lemmas.List.{length-drop, length_push, take_rest, take_more, take_more_set, drop-set-lt, append_assoc, append-nil, drop_all, drop_more}
 use Rattle.std.proofs.lemmas.Bool.{and_from, and_right, le-leb}
 use Rattle.machines.specs.Words.{Word, Bytes}
 use Rattle.machines.specs.Classes.{nth}
@@ -13,7 +13,7 @@ use Rattle.patterns.specs.Searching.{anywhere, bit, ends, ends_along}
 use Rattle.patterns.specs.Promises.{PatternAt, SomePattern, SomeList, EndsAt, BitsAfter}
 use Rattle.patterns.proofs.Trees.{one_list}
 use Rattle.patterns.proofs.Extents.{PartsAt, parts_first, pattern_later}
-use Rattle.patterns.proofs.Cutting.{Here, Many, done, more, words_many, cut_some, cut_none}
+use Rattle.patterns.proofs.Cutting.{Many, done, more, words_many, cut_some, cut_none}
 
 -- words of bytes
 pub bytes_from : (w : Word) → ((i : ℕ) → get_or w i 0 < 256) → Bytes w

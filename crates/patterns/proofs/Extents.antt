@@ -1,15 +1,15 @@
 -- Where patterns stand in a list's bytes, from the node at their top and from the patterns before them. Assumes nothing.
-use Rattle.std.proofs.Common.{◌≡◌, ℕ, zero, suc, ◌+◌, ◌-◌, ◌<◌, ◌≤◌, Bool, true, false, ◌&&◌, ◌⊎◌, List, [], ◌∷◌, ◌++◌, length, get_or, drop, Some, None, Option, sym, refl, ap, ◌∙◌, subst, inl, inr, ⊎_elim, arith, length-append}
-use Rattle.std.proofs.lemmas.List.{append-nil, append_assoc, append_cancel_left, drop-drop, drop_at, drop_all, length-drop, length_push}
+use Rattle.std.proofs.Common.{◌≡◌, ℕ, ◌+◌, ◌<◌, ◌≤◌, true, List, [], ◌∷◌, ◌++◌, length, drop, Some, None, Option, sym, refl, ap, ◌∙◌, subst, ⊎_elim, arith, length-append}
+use Rattle.std.proofs.lemmas.List.{append-nil, append_assoc, append_cancel_left, drop_all, length-drop, length_push}
 use Rattle.std.proofs.lemmas.Bool.{and_parts, and_from, cases_lt}
 use Rattle.patterns.specs.declared.node.Node.{Node}
 use Rattle.patterns.specs.declared.node.Node.TheVariants.{Nothing, Empty, Range, Sequence, Union, Intersection, Complement, Star}
 use Rattle.patterns.specs.Patterns.{Pattern}
 use Rattle.patterns.specs.Lists.{write, write_list, sound, sound_list, ListOf, Stands}
 use Rattle.patterns.specs.Nodes.{node_bytes, node_sound, arity}
-use Rattle.patterns.specs.Promises.{NodeAt, NodeRead, PatternAt, PatternRead, Listed, ListRead}
-use Rattle.patterns.proofs.Places.{stands_from, stands_stop, stands_both}
-use Rattle.patterns.proofs.Decoding.{decode, decode_node, node_long, node_decode}
+use Rattle.patterns.specs.Promises.{NodeAt, PatternAt, PatternRead, ListRead}
+use Rattle.patterns.proofs.Places.{stands_from, stands_stop}
+use Rattle.patterns.proofs.Decoding.{decode, decode_node, node_long}
 use Rattle.patterns.proofs.Trees.{node_of, parts_of, build, built_as, written_parts, sound_parts, parts_many, build_written, build_sound, write_long, write_append, sound_append, one_pattern, prefix_list, one_list}
 
 -- patterns one after the other, from a place to a place

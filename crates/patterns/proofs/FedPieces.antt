@@ -1,6 +1,6 @@
 -- Pieces that were fed one after the other led where the whole leads, and wrote what it writes. Assumes nothing.
 use Rattle.std.proofs.Common.{◌≡◌, ℕ, List, [], ◌∷◌, ◌++◌, sym, ap, ◌∙◌, subst}
-use Rattle.machines.specs.Words.{Word, joined}
+use Rattle.machines.specs.Words.{Word}
 use Rattle.machines.specs.Machines.{runs, traces}
 use Rattle.machines.specs.Tables.{next, output, seen}
 use Rattle.machines.proofs.Pieces.{runs_joined, traces_joined}

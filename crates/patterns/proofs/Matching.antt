@@ -1,15 +1,15 @@
 -- Deciding by definition, node by node: what the answers for the parts say of the whole. Assumes nothing.
-use Rattle.std.proofs.Common.{◌≡◌, ℕ, zero, suc, ◌+◌, ◌-◌, ◌<◌, ◌≤◌, Bool, true, false, ◌&&◌, ◌||◌, eqb, ◌⊎◌, List, [], ◌∷◌, length, take, drop, sym, refl, ap, ◌∙◌, subst, inl, inr, ⊎_elim, arith}
+use Rattle.std.proofs.Common.{◌≡◌, ℕ, ◌+◌, ◌-◌, ◌<◌, Bool, true, false, ◌&&◌, ◌||◌, eqb, List, [], ◌∷◌, length, take, drop, sym, refl, ap, ◌∙◌, subst, arith}
 use Rattle.std.proofs.lemmas.List.{take_rest}
-use Rattle.std.proofs.lemmas.Bool.{and_from, and_left, and_right, or_left, ne_eqb}
+use Rattle.std.proofs.lemmas.Bool.{and_from, and_left, and_right, ne_eqb}
 use Rattle.machines.specs.Words.{Word}
 use Rattle.patterns.specs.declared.node.Node.{Node}
-use Rattle.patterns.specs.Patterns.{Pattern, seq, star, null, matches}
+use Rattle.patterns.specs.Patterns.{Pattern, null, matches}
 use Rattle.patterns.specs.Nodes.{node_bytes, arity}
-use Rattle.patterns.specs.Promises.{NodeAt, PatternAt, SomePattern, MatchesAt, SequenceMatches, StarMatches}
-use Rattle.patterns.proofs.Trees.{node_of, parts_of, build, parts_many, built_as}
+use Rattle.patterns.specs.Promises.{NodeAt, PatternAt, SomePattern, MatchesAt}
+use Rattle.patterns.proofs.Trees.{parts_of, build, parts_many, built_as}
 use Rattle.patterns.proofs.Extents.{NodeTo, node_to, PartsAt, parts_first, pattern_opened, pattern_later}
-use Rattle.patterns.proofs.Cutting.{Here, Part, cut_some, cut_none, star_some, star_none}
+use Rattle.patterns.proofs.Cutting.{Here}
 
 -- the node that was read, once its kind is known
 pub node_kind : {s : List ℕ} {at : ℕ} {n m : Node} (width : ℕ) → NodeAt s at n → width ≡ length (node_bytes n) → n ≡ m → NodeTo s at m (at + width)

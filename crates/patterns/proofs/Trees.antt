@@ -1,13 +1,13 @@
 -- A pattern is a node over its parts, and bytes are the writing of at most one list. Assumes nothing.
 --   node_of p, parts_of p    the node at p's top, and what stands below it
 --   build n ps               the pattern of a node and its parts
-use Rattle.std.proofs.Common.{◌≡◌, ℕ, zero, suc, ◌+◌, ◌<◌, ◌≤◌, Bool, true, false, ◌&&◌, ◌⊎◌, List, [], ◌∷◌, ◌++◌, length, get_or, drop, Some, None, Option, sym, refl, ap, ◌∙◌, subst, inl, inr, ⊎_elim, arith, length-append}
+use Rattle.std.proofs.Common.{◌≡◌, ℕ, zero, suc, ◌<◌, ◌≤◌, Bool, true, false, ◌&&◌, List, [], ◌∷◌, ◌++◌, length, get_or, Some, sym, refl, ap, ◌∙◌, ⊎_elim, arith, length-append}
 use Rattle.std.proofs.lemmas.List.{append-nil, append_assoc, append_cancel_left}
 use Rattle.std.proofs.lemmas.Bool.{and_parts, and_from, cases_lt}
 use Rattle.patterns.specs.declared.node.Node.{Node}
 use Rattle.patterns.specs.declared.node.Node.TheVariants.{Nothing, Empty, Range, Sequence, Union, Intersection, Complement, Star}
 use Rattle.patterns.specs.Patterns.{Pattern, nothing, empty, range, seq, union, inter, compl, star}
-use Rattle.patterns.specs.Lists.{write, write_list, sound, sound_list, ListOf, OneList}
+use Rattle.patterns.specs.Lists.{write, write_list, sound, sound_list, OneList}
 use Rattle.patterns.specs.Nodes.{node_bytes, node_sound, arity}
 use Rattle.patterns.proofs.Decoding.{decode, decode_node, node_long}
 

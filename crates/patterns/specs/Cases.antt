@@ -1,5 +1,5 @@
 -- Worked examples, as facts about the definitions: a is 97, b is 98. Assumes nothing.
-use Rattle.std.specs.Prelude.{◌≡◌, ℕ, true, false, List, [], ◌∷◌}
+use Rattle.std.specs.Prelude.{◌≡◌, true, false, List, [], ◌∷◌}
 use Rattle.patterns.specs.Patterns.{Pattern, nothing, empty, range, seq, union, inter, compl, star, matches}
 use Rattle.patterns.specs.Lists.{write_list}
 use Rattle.patterns.specs.Searching.{ends}

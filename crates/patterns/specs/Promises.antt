@@ -1,5 +1,5 @@
 -- What the calls ensure. Assumes nothing.
-use Rattle.std.specs.Prelude.{◌≡◌, ℕ, ◌+◌, ◌<◌, ◌≤◌, Bool, true, List, [], length, take, drop, Some, None, Option}
+use Rattle.std.specs.Prelude.{◌≡◌, ℕ, ◌+◌, ◌<◌, Bool, true, List, [], length, take, drop, Some, None, Option}
 use Rattle.std.proofs.Math.Option.{some}
 use Rattle.machines.specs.Words.{Word}
 use Rattle.machines.specs.Classes.{nth}

@@ -12,8 +12,8 @@ use Rattle.subsets.proofs.Moves.{length_moved}
 abbrev bit : ℕ → ℕ → ℕ
 bit x j = x / 2 ^ j % 2
 
-bit_or : (a b j : ℕ) → bit (bit_or a b) j ≡ max (bit a j) (bit b j)
-bit_or a b j = ap (λ z. z % 2) (or_shr a b j ∙ or_step (a / 2 ^ j) (b / 2 ^ j)) ∙ omega arith
+bit_bit_or : (a b j : ℕ) → bit (bit_or a b) j ≡ max (bit a j) (bit b j)
+bit_bit_or a b j = ap (λ z. z % 2) (or_shr a b j ∙ or_step (a / 2 ^ j) (b / 2 ^ j)) ∙ omega arith
 
 bit_same : (k : ℕ) → bit (2 ^ k) k ≡ 1
 bit_same k = let e : 2 ^ k / 2 ^ k ≡ 1 = ap (λ z. z / 2 ^ k) (one (2 ^ k)) ∙ shl-shr 1 k in omega arith
@@ -38,12 +38,12 @@ pub has_added : (ws : List ℕ) (q : ℕ) → q / 32 < length ws → has (add ws
 has_added ws q h = eq-eqb (bit (get_or (add ws q) (q / 32) 0) (q % 32)) 1 (
     let w = get_or ws (q / 32) 0 in
     let e : max (bit w (q % 32)) (bit (2 ^ (q % 32)) (q % 32)) ≡ 1 = omega (arith, bit_same (q % 32)) in
-    ap (λ z. bit z (q % 32)) (get_or-set_same ws (q / 32) (bit_or w (2 ^ (q % 32))) 0 h) ∙ bit_or w (2 ^ (q % 32)) (q % 32) ∙ e)
+    ap (λ z. bit z (q % 32)) (get_or-set_same ws (q / 32) (bit_or w (2 ^ (q % 32))) 0 h) ∙ bit_bit_or w (2 ^ (q % 32)) (q % 32) ∙ e)
 
 pub has_other : (ws : List ℕ) (q r : ℕ) → q / 32 < length ws → (r ≡ q → ⊥) → has (add ws q) r ≡ has ws r
 has_other ws q r h d = ⊎_elim
     (λ (e : r / 32 ≡ q / 32). ap (λ z. eqb z 1)
-    (ap (λ z. bit (get_or (add ws q) z 0) (r % 32)) e ∙ ap (λ z. bit z (r % 32)) (get_or-set_same ws (q / 32) _ 0 h) ∙ bit_or _ _ (r % 32)
+    (ap (λ z. bit (get_or (add ws q) z 0) (r % 32)) e ∙ ap (λ z. bit z (r % 32)) (get_or-set_same ws (q / 32) _ 0 h) ∙ bit_bit_or _ _ (r % 32)
     ∙ ap (λ z. max (bit (get_or ws (q / 32) 0) (r % 32)) z) (bit_other (r % 32) (q % 32) (omega arith)) ∙ none _ ∙ ap (λ z. bit (get_or ws z 0) (r % 32)) (sym e)))
     (λ (n : r / 32 ≡ q / 32 → ⊥). ap (λ z. eqb (bit z (r % 32)) 1) (get_or-set_other ws (q / 32) (r / 32) _ 0 n))
     (cases_eq (r / 32) (q / 32))

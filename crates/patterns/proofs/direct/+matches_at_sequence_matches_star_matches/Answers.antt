@@ -1,10 +1,10 @@
-use Rattle.std.proofs.Common.{ℕ, true, not, length, sym, refl, ap, ◌∙◌, subst, arith, below_more}
+use Rattle.std.proofs.Common.{ℕ, not, length, sym, refl, ap, ◌∙◌, subst, arith, below_more}
 use Rattle.std.proofs.lemmas.Bool.{or_left, and_left}
 use Rattle.patterns.specs.Patterns.{star, matches}
 use Rattle.patterns.specs.Promises.{PatternAt}
 use Rattle.patterns.proofs.Extents.{node_later, pattern_later, end_none}
 use Rattle.patterns.proofs.Matching.{node_kind, matches_leaf, matches_one, matches_two, some_first, some_second, null_length, or_second, and_second, cut_serves, front_fails, rest_fails}
-use Rattle.patterns.proofs.Cutting.{cut_some, cut_none, star_empty, star_some, star_none}
+use Rattle.patterns.proofs.Cutting.{cut_some, cut_none, star_some, star_none}
 use Rattle.patterns.proofs.direct.+matches_at_sequence_matches_star_matches.Goals as goal
 use Rattle.patterns.proofs.direct.+matches_at_sequence_matches_star_matches.Goals.{sequence_matches-else-matches_at-via-then-matches_at+else-matches_at-2, sequence_matches-else-matches_at-via-else-matches_at, star_matches-else-matches_at-via-then-matches_at+else-star_matches, star_matches-else-matches_at-via-else-matches_at}
 
