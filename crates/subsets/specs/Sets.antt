@@ -9,7 +9,7 @@
 --                             a key is a row of the first and the set of the second's rows
 --   again, whole              a table read from the start and again from each place where it shows 1: a key is whether
 --                             it shows 1, and the set of its rows
-use Rattle.std.specs.Prelude.{◌≡◌, ℕ, zero, suc, ◌/◌, ◌%◌, ◌^◌, ◌<◌, ◌≤◌, Bool, true, false, cond, ◌&&◌, ◌||◌, List, ◌∷◌, drop, set, replicate, ◌==◌, bit_or, slice_index, slice_set}
+use Rattle.std.specs.Prelude.{◌≡◌, ℕ, zero, suc, ◌/◌, ◌%◌, ◌^◌, ◌<◌, ◌≤◌, Bool, true, false, cond, ◌&&◌, ◌||◌, List, ◌∷◌, drop, replicate, ◌==◌, bit_or, slice_index, slice_set}
 use Rattle.machines.specs.Columns.{cell, shown}
 
 abbrev pub has : List ℕ → ℕ → Bool

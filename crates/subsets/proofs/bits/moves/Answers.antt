@@ -1,5 +1,4 @@
-use Rattle.std.proofs.Common.{◌≡◌, ℕ, length, replicate, ap, ◌∙◌, arith}
-use Rattle.std.proofs.lemmas.List.{length-replicate}
+use Rattle.std.proofs.Common.{◌≡◌, length, replicate, ap, ◌∙◌, arith}
 use Rattle.subsets.specs.Sets.{moved}
 use Rattle.subsets.proofs.Moves.{moved_start, moved_more}
 use Rattle.subsets.proofs.bits.moves.Goals as goal
