@@ -1,5 +1,5 @@
 -- The reader goes on, and then further. Assumes nothing.
-use Rattle.std.proofs.Common.{◌≡◌, ℕ, ◌<◌, ◌≤◌, length, sym, refl, ap, ◌∙◌, subst, arith}
+use Rattle.std.proofs.Common.{◌≡◌, refl, ◌∙◌, subst, arith}
 use Rattle.notation.specs.declared.scan.Reader.{Reader}
 use Rattle.notation.specs.Reading.{On, Past}
 

@@ -1,14 +1,13 @@
 -- Names and patterns, line after line. Assumes nothing.
-use Rattle.std.proofs.Common.{◌≡◌, ℕ, suc, ◌+◌, ◌<◌, ◌≤◌, Bool, true, false, List, [], ◌∷◌, ◌++◌, length, get_or, drop, Decides, sym, refl, ap, ◌∙◌, subst, add-one, arith, drop-cons}
-use Rattle.std.proofs.lemmas.List.{append-nil, append_assoc, length_push, drop_all}
+use Rattle.std.proofs.Common.{◌≡◌, ℕ, ◌+◌, ◌<◌, ◌≤◌, Bool, true, false, List, [], ◌∷◌, ◌++◌, length, get_or, drop, Decides, sym, refl, ap, ◌∙◌, subst, add-one, arith, drop-cons}
+use Rattle.std.proofs.lemmas.List.{append-nil, length_push, drop_all}
 use Rattle.std.proofs.lemmas.Bool.{and_from}
-use Rattle.patterns.specs.Patterns.{Pattern}
-use Rattle.patterns.specs.Lists.{write, write_list, sound, sound_list, ListOf}
+use Rattle.patterns.specs.Lists.{write, write_list, sound}
 use Rattle.patterns.proofs.Trees.{write_append, sound_append}
 use Rattle.notation.specs.declared.scan.Span.{Span}
 use Rattle.notation.specs.Reading.{Within}
 use Rattle.notation.specs.Writing.{Added}
-use Rattle.notation.specs.Names.{Each, Unlike, Distinct, word_of}
+use Rattle.notation.specs.Names.{Each, Unlike, Distinct}
 use Rattle.notation.specs.declared.scan.Reader.{Reader}
 use Rattle.notation.specs.Promises.{Notated, Line}
 

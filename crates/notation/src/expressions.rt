@@ -131,10 +131,10 @@ impl Reader<'_> {
         let text = self.text;
         let Span { start, end } = self.word(Expected::Expression)?;
         let bytes = &text[start..end];
-        if bytes == b"nothing" {
+        if bytes == b"nothing".as_slice() {
             return self.put(list, NOTHING);
         }
-        if bytes == b"empty" {
+        if bytes == b"empty".as_slice() {
             return self.put(list, EMPTY);
         }
         Err(Fault::At(place, Expected::Expression))

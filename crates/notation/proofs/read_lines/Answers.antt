@@ -1,7 +1,7 @@
-use Rattle.std.proofs.Common.{ℕ, List, [], ◌∷◌, ◌++◌, vec_items, sym, ap, ◌∙◌, subst}
+use Rattle.std.proofs.Common.{List, vec_items, sym, ap, ◌∙◌, subst}
 use Rattle.notation.specs.declared.scan.Span.{Span}
 use Rattle.notation.specs.Promises.{Notated}
-use Rattle.notation.proofs.Naming.{notated_none, notated_line}
+use Rattle.notation.proofs.Naming.{notated_line}
 use Rattle.notation.proofs.read_lines.Goals as goal
 
 pub loop-reader-preserved : goal.loop-reader-preserved

@@ -1,4 +1,3 @@
-use Rattle.std.proofs.Common.{sym}
 use Rattle.notation.specs.Reading.{Within}
 use Rattle.notation.specs.Names.{Unlike}
 use Rattle.notation.proofs.Naming.{each_next, each_back, each_end}

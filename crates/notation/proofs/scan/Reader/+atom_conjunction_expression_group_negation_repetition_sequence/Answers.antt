@@ -1,7 +1,7 @@
 use Rattle.std.proofs.Common.{sym, ◌∙◌}
 use Rattle.std.proofs.lemmas.Result.{IfOk-weaker}
-use Rattle.notation.proofs.Moving.{past_past, past_on}
-use Rattle.notation.proofs.Adding.{made_both, begun, added_infix, added_not, unions, intersections, sequences}
+use Rattle.notation.proofs.Moving.{past_past}
+use Rattle.notation.proofs.Adding.{begun, added_infix, added_not, unions, intersections, sequences}
 use Rattle.notation.proofs.scan.Reader.+atom_conjunction_expression_group_negation_repetition_sequence.Goals as goal
 
 pub expression-put_before-requires : goal.expression-put_before-requires

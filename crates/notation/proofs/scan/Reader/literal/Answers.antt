@@ -1,4 +1,4 @@
-use Rattle.std.proofs.Common.{sym, refl}
+use Rattle.std.proofs.Common.{refl}
 use Rattle.std.proofs.lemmas.Result.{IfOk-weaker}
 use Rattle.patterns.specs.Patterns.{empty}
 use Rattle.notation.proofs.Moving.{past_past, past_same}
