@@ -2,6 +2,6 @@
 # Builds the static library and runs the host's tests over it.
 set -eu
 cd "$(dirname "$0")/.."
-rt staticlib terntrolley
+tools/build terntrolley
 cd host
 cargo test --offline --release

@@ -1,4 +1,4 @@
-//! Finds libterntrolley.a: in the folder that TERNTROLLEY_LIB_DIR names, or where `rt staticlib terntrolley` writes it.
+//! Finds libterntrolley.a: in the folder that TERNTROLLEY_LIB_DIR names, or where `tools/build terntrolley` writes it.
 use std::env;
 use std::path::{Path, PathBuf};
 use std::process::exit;
@@ -8,7 +8,7 @@ const LIBRARY: &str = "libterntrolley.a";
 fn library_folder() -> PathBuf {
     match env::var_os("TERNTROLLEY_LIB_DIR") {
         Some(folder) => PathBuf::from(folder),
-        None => Path::new(env!("CARGO_MANIFEST_DIR")).join("../../target/staticlib"),
+        None => Path::new(env!("CARGO_MANIFEST_DIR")).join("../../crates/terntrolley/out"),
     }
 }
 
@@ -19,7 +19,7 @@ fn main() {
     println!("cargo::rerun-if-changed={}", library.display());
     if !library.is_file() {
         println!(
-            "cargo::error={} isn't there: run `rt staticlib terntrolley` in the repository's root, \
+            "cargo::error={} isn't there: run `tools/build terntrolley` in the repository's root, \
              or set TERNTROLLEY_LIB_DIR to the folder that has {LIBRARY}",
             library.display()
         );

@@ -4,8 +4,8 @@
 #   mistakes    a line for each: 'LINE COLUMN|what is expected|the text', with \n for a line's end and \\ for a backslash
 set -uo pipefail
 cd "$(dirname "$0")"
-program=../../target/bin/search
-[ -x "$program" ] || { echo "no $program: run 'rt check search' first"; exit 1; }
+program=../../crates/search/out/search
+[ -x "$program" ] || { echo "no $program: run 'tools/build search' first"; exit 1; }
 list=$(mktemp)
 said=$(mktemp)
 trap 'rm -f "$list" "$said"' EXIT

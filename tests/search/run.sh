@@ -5,8 +5,8 @@
 #   message         instead of places: what must be printed on standard error, with status 1
 set -uo pipefail
 cd "$(dirname "$0")"
-program=../../target/bin/search
-[ -x "$program" ] || { echo "no $program: run 'rt check search' first"; exit 1; }
+program=../../crates/search/out/search
+[ -x "$program" ] || { echo "no $program: run 'tools/build search' first"; exit 1; }
 passed=0
 failed=0
 for case in */; do
