@@ -2,13 +2,12 @@
 --   Split w             a word is empty, or a word with one byte behind it
 --   Rows L w r          row r, if it isn't the dead one, is that of something that stands behind a front of w in L
 --   SetOf L w ws       the set ws is those rows
-use Rattle.std.proofs.Common.{◌≡◌, ℕ, ◌*◌, ◌/◌, ◌<◌, ◌≤◌, Bool, true, false, cond, ◌⊎◌, ◌↔◌, List, [], ◌∷◌, ◌++◌, length, get_or, drop, replicate, sym, refl, ap, ◌∙◌, subst, inl, inr, ⊎_elim, arith}
+use Rattle.std.proofs.Common.{◌≡◌, ℕ, ◌*◌, ◌/◌, ◌<◌, ◌≤◌, Bool, true, false, cond, ◌⊎◌, ◌↔◌, List, [], ◌∷◌, ◌++◌, length, replicate, sym, refl, ap, ◌∙◌, subst, inl, inr, ⊎_elim, arith}
 use Rattle.std.proofs.lemmas.List.{append-nil, append_assoc, same_from_push, length-replicate}
 use Rattle.std.proofs.lemmas.Bool.{both_ways}
 use Rattle.machines.specs.Words.{Word, Bytes}
 use Rattle.machines.specs.Machines.{run}
 use Rattle.machines.specs.Columns.{Columns, cell, shown, leads}
-use Rattle.machines.specs.Dead.{Live}
 use Rattle.machines.specs.Systems.{Key, reach}
 use Rattle.machines.proofs.Codes.{run_push, bytes_append, bytes_push}
 use Rattle.machines.proofs.Pieces.{run_append}

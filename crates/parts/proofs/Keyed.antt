@@ -1,12 +1,12 @@
 -- A system whose keys are exactly what the step at a pattern's top must tell apart. Assumes nothing.
 --   Keyed p next s    two words lead to one key exactly if the step at p's top doesn't tell them apart
-use Rattle.std.proofs.Common.{◌≡◌, ℕ, ◌<◌, ◌≤◌, Bool, true, false, ◌↔◌, List, [], ◌∷◌, ◌++◌, length, sym, refl, ap, ◌∙◌, arith}
+use Rattle.std.proofs.Common.{◌≡◌, ℕ, Bool, true, false, ◌↔◌, List, [], ◌∷◌, ◌++◌, sym, refl, ap, ◌∙◌, arith}
 use Rattle.std.proofs.lemmas.List.{append-nil}
 use Rattle.machines.specs.Words.{Word, Bytes}
 use Rattle.machines.specs.Columns.{Columns, shown, leads}
 use Rattle.machines.specs.Machines.{run}
 use Rattle.machines.specs.Minimal.{Nerode, Gives, Minimal}
-use Rattle.machines.specs.Systems.{Key, reach, Explored}
+use Rattle.machines.specs.Systems.{Key, reach}
 use Rattle.machines.specs.Laws.{SameKey, Among}
 use Rattle.machines.proofs.Codes.{bytes_push}
 use Rattle.machines.proofs.Pigeons.{pairwise_many}

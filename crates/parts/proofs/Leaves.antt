@@ -1,7 +1,7 @@
 -- The patterns that have no parts: their states are what they leave. Assumes nothing.
 --   state l i w       the state that a word leads to from state i
 --   ToldBy l i j     a word after which the two states show different things
-use Rattle.std.proofs.Common.{◌≡◌, ℕ, zero, suc, ◌<◌, ◌≤◌, Bool, true, false, cond, ◌&&◌, eqb, leb, ◌↔◌, List, [], ◌∷◌, ◌++◌, get_or, sym, refl, ap, ◌∙◌, subst, ⊎_elim, arith}
+use Rattle.std.proofs.Common.{◌≡◌, ℕ, zero, suc, ◌<◌, ◌≤◌, Bool, true, false, cond, ◌&&◌, eqb, leb, ◌↔◌, [], ◌∷◌, ◌++◌, get_or, sym, refl, ap, ◌∙◌, subst, ⊎_elim, arith}
 use Rattle.std.proofs.lemmas.Bool.{cases_eq, cases_order, and_from, le-leb}
 use Rattle.machines.specs.Words.{Word, Bytes}
 use Rattle.machines.specs.Systems.{reach}

@@ -1,8 +1,7 @@
 -- Outputs turned row by row. Assumes nothing.
 --   Turning i t u    u is t with the outputs of the first i rows turned
 use Rattle.std.proofs.Common.{◌≡◌, ℕ, ◌+◌, ◌*◌, ◌<◌, ◌≤◌, cond, eqb, ◌≢◌, List, length, get_or, set, sym, refl, ap, ◌∙◌, subst, arith, length-set, get_or-set_other, get_or-set_same, below_more}
-use Rattle.machines.specs.Columns.{cell, shown}
-use Rattle.machines.specs.Inside.{Inside}
+use Rattle.machines.specs.Columns.{shown}
 use Rattle.parts.specs.Combining.{Complemented}
 use Rattle.parts.specs.Steps.{Turned}
 use Rattle.parts.proofs.Complements.{compl_finished}

@@ -1,7 +1,7 @@
 // The step of the work at each kind of part. The table that comes of it stands at the front of `tables`, where a part's may have stood.
 ghost use Rattle.std.specs.Prelude.{◌≡◌, ℕ, ◌+◌, ◌*◌, ◌/◌, ◌≤◌, List, [], ◌∷◌, length, if◌then◌else◌, nat_eq, slice_index};
 ghost use Rattle.patterns.specs.Patterns.{seq, union, inter, star};
-ghost use Rattle.exploration.specs.Pairs.{Joinable, pair_next, pair_shows};
+ghost use Rattle.exploration.specs.Pairs.{pair_next, pair_shows};
 ghost use Rattle.subsets.specs.Sets.{followed, unread, follow_shows, again, whole};
 ghost use Rattle.parts.specs.Combining.{part_words, PartInside, Changes, Combines, Complemented};
 ghost use Rattle.parts.specs.Leaves.{leaf_pattern, SoundLeaf, LeafColumns};
@@ -59,7 +59,6 @@ fn pair<'x>(
     block: &mut [u32],
     work: &mut [u32],
 ) -> Option<usize>
-    requires join { Joinable join }
     requires columns { HasByteColumns columns.count columns.column.now columns.least.now }
     requires room { Rooms most (length tables.now) (length raw.old) (length block.old) (length work.old) }
     requires first { PartInside columns.count first tables.now }

@@ -1,4 +1,4 @@
-use Rattle.std.proofs.Common.{◌≡◌, ℕ, ◌≤◌, length, ◌∙◌, subst, arith, length-take}
+use Rattle.std.proofs.Common.{ℕ, ◌≤◌, length, subst, arith, length-take}
 use Rattle.exploration.specs.Keys.{key_at}
 use Rattle.refinement.specs.Refining.{at, Refined}
 use Rattle.parts.proofs.Distinguishing.{refined_front}
