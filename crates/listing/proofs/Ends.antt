@@ -1,6 +1,6 @@
 -- The bits of a list: which texts they tell apart, and one pattern more. Assumes nothing.
 use Rattle.std.proofs.Common.{◌≡◌, ℕ, suc, ◌+◌, ◌*◌, ◌^◌, ◌<◌, Bool, true, false, ◌↔◌, List, [], ◌∷◌, ◌++◌, length, sym, refl, ap, ◌∙◌, mul_assoc, pow-suc, arith}
-use Rattle.machines.specs.Words.{Word, Bytes}
+use Rattle.machines.specs.Words.{Word}
 use Rattle.machines.specs.Minimal.{Nerode}
 use Rattle.patterns.specs.Patterns.{Pattern, matches}
 use Rattle.patterns.specs.Residuals.{Of, SameResidual}

@@ -1,12 +1,11 @@
 // The table of a list, begun with no pattern and made longer by one pattern at a time.
-ghost use Rattle.std.specs.Prelude.{◌≡◌, ℕ, ◌+◌, ◌*◌, ◌^◌, ◌<◌, ◌≤◌, length, drop, slice_index};
+ghost use Rattle.std.specs.Prelude.{◌≡◌, ℕ, ◌+◌, ◌-◌, ◌*◌, ◌^◌, ◌<◌, ◌≤◌, length, drop, slice_index};
 ghost use Rattle.machines.specs.Columns.{Columns};
 ghost use Rattle.machines.specs.Inside.{Inside};
-ghost use Rattle.exploration.specs.Hashed.{bucket-count};
 ghost use Rattle.listing.specs.Listed.{JoinSays, EmptySays};
 
+use crate::longer::Longer;
 use exploration::explore::explore;
-use exploration::index::BUCKETS;
 use exploration::pairs::{Join, Pair};
 
 // Writes the table of no patterns: one row, which shows no bit and leads to itself.
@@ -38,18 +37,18 @@ pub fn join_pattern<'x>(
     requires front { Inside columns fronts front.now }
     requires next { Inside columns nexts next.now }
     requires index { index < 32 }
-    requires most { most < 2 ^ 32 }
+    requires most { most < 2 ^ 32 - 1 }
     requires table { 257 * most ≤ length table.old }
-    requires work { 3 * most + (2 + bucket-count) ≤ length work.old }
+    requires work { 3 * most + (2 + 4096) ≤ length work.old }
     ensures says { JoinSays (λ b. slice_index column.now b) columns most index fronts front.now nexts next.now table.new result }
     ensures rest { drop (257 * most) table.new ≡ drop (257 * most) table.old }
 {
     let (keys, behind) = work.split_at_mut(2 * most);
     let (key, behind) = behind.split_at_mut(2);
-    let (heads, behind) = behind.split_at_mut(BUCKETS);
+    let (heads, behind) = behind.split_at_mut(4096);
     let (links, _) = behind.split_at_mut(most);
     let pair = Pair {
-        join: Join::Bit(index),
+        join: Join::Or,
         left: front,
         left_rows: fronts,
         right: next,
@@ -58,5 +57,6 @@ pub fn join_pattern<'x>(
         column,
         least,
     };
-    explore(&pair, most, keys, key, table, heads, links)
+    let longer = Longer { pair, index };
+    explore(&longer, most, keys, key, table, heads, links)
 }

@@ -4,3 +4,4 @@
 
 pub mod join;
 pub mod laws;
+pub mod longer;
