@@ -70,6 +70,7 @@ fn combine(
 }
 
 // Works out both parts of a node, then the node over them.
+#[cycle(working)]
 fn two_parts(
     plan: Plan<'_>,
     node: Node,
@@ -121,6 +122,7 @@ fn two_parts(
 }
 
 // Works out the pattern that stands at a place of the list.
+#[cycle(working)]
 pub fn work_out(
     plan: Plan<'_>,
     at: usize,
