@@ -1,13 +1,13 @@
 -- What an exploration of a system has found, on the way and at its end. Assumes nothing.
---   word_at ws i          the word that key i was found by
+--   word_at ws i         the word that key i was found by
 --   Led                  row j is where column c leads from row i, and its word is no later than that of row i with the column's
 --                        least byte behind it
 --   Partly               k keys are found, and the columns below c of this row and all columns of the rows before it are read
 --   On                   the same of keys and a table in memory, for some words, where the rows below done show what their keys show
---   TooMany             more words than there is room for, and no two lead to one key
+--   TooMany              more words than there is room for, and no two lead to one key
 --   Complete             all keys are found, and the table of their k rows is written
---   RowDone             a row is read, and the keys that are found are still in their buckets
---   RowSays, Says       what is promised of a row, and of an exploration
+--   RowDone              a row is read, and the keys that are found are still in their buckets
+--   RowSays, Says        what is promised of a row, and of an exploration
 use Rattle.std.specs.Prelude.{◌≡◌, ℕ, ◌+◌, ◌*◌, ◌<◌, ◌≤◌, List, [], Some, None, Option, slice_index_or}
 use Rattle.machines.specs.Words.{Word}
 use Rattle.machines.specs.Columns.{cell, shown, leads}

@@ -1,5 +1,5 @@
 -- Keys side by side in one list, n numbers each, and where a key stands among the first k. Assumes nothing.
---   key_at ks n i                       key i
+--   key_at ks n i                      key i
 --   Finds ks n k key r                 the class of a key, or that it has none
 --   Kept ks ks' n i key                key i was written, and those before it are as they were
 --   Settled ks ks' n k most key r      the class of a key that is put behind the others if it is new and there is room for it

@@ -2,7 +2,7 @@
 --   join j a b                   what two outputs give together
 --   pair_next column l r k b     where a byte leads from a pair of rows
 --   pair_shows j l r k           what a pair of rows shows
---   PairKey m n k               a row of m, then a row of n
+--   PairKey m n k                a row of m, then a row of n
 use Rattle.std.specs.Prelude.{◌≡◌, ℕ, ◌<◌, cond, List, [], ◌∷◌, length, ◌==◌, slice_index, slice_index_or}
 use Rattle.machines.specs.Columns.{shown, leads}
 use Rattle.exploration.specs.declared.pairs.Join.{Join}

@@ -1,11 +1,11 @@
 -- The table of a list's front, and one pattern more. Assumes nothing.
 --   Listed column c ps n k t       the patterns ps fit into n classes, and t's k rows over c columns are the least machine of
 --                                  the bits of ps
---   NextSays                      what is promised of one pattern more: the table of the longer list, or that no list that
+--   NextSays                       what is promised of one pattern more: the table of the longer list, or that no list that
 --                                  begins so fits
 --   JoinSays                       the same for every list and pattern whose tables two tables are
 --   EmptySays c t                  t's first row is the table of no patterns, whatever the columns
---   SearchLaws                    what a search need not tell apart is what the bits don't tell apart; no list fits into no
+--   SearchLaws                     what a search need not tell apart is what the bits don't tell apart; no list fits into no
 --                                  class
 use Rattle.std.specs.Prelude.{◌≡◌, ℕ, ◌<◌, ◌≤◌, ◌↔◌, List, [], ◌∷◌, ◌++◌, length, Some, None, Option}
 use Rattle.machines.specs.Words.{Word}

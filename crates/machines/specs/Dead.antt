@@ -1,7 +1,7 @@
 -- Rows from which nothing is shown any more. Assumes nothing.
 --   Dead next output i    row i shows 0 and every byte stays in it: what code can look at
 --   Live next output i    a word after which something else than 0 is shown
---   DeadRows             in a minimal machine each row is live, with its word, or dead; and at most one is dead
+--   DeadRows              in a minimal machine each row is live, with its word, or dead; and at most one is dead
 use Rattle.std.specs.Prelude.{◌≡◌, ℕ, ◌<◌, ◌⊎◌, ◌≢◌}
 use Rattle.machines.specs.Words.{Word, Bytes}
 use Rattle.machines.specs.Machines.{run}

@@ -1,5 +1,5 @@
 -- A table over columns written with a cell for each byte. Assumes nothing.
---   RowExpanded column r r'       of single rows: r' shows what r shows, and each byte has the cell of its column in r
+--   RowExpanded column r r'        of single rows: r' shows what r shows, and each byte has the cell of its column in r
 --   Expanded column k raw t t'     so are the first k rows of t', and behind them t' is as t was; and they are the least
 --                                  machine of whatever function raw's rows are that of
 use Rattle.std.specs.Prelude.{◌≡◌, ℕ, ◌+◌, ◌*◌, ◌<◌, List, take, drop, slice_index, slice_index_or}

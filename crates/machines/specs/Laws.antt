@@ -3,24 +3,24 @@
 -- Nerode f, for every output function f, of what a test decides, and of equal keys, for every system; the lemmas behind them
 -- are of any relation.
 -- Assumes nothing.
---   TableOf column E f firsts t   a row for each class of E, by first words: what it shows is f of its first word, and
+--   TableOf column E f firsts t    a row for each class of E, by first words: what it shows is f of its first word, and
 --                                  each byte's column leads to the class of that word with the byte behind it
 --   Congruence E                   an equality of words that a byte behind both keeps
 --   along f u w                    f after each byte of w, where u was read before
 --   Apart E ws                     words of which no two are related
---   AtMost n E, MoreThan n E     E has at most n classes; there are n + 1 words of which no two are related
+--   AtMost n E, MoreThan n E       E has at most n classes; there are n + 1 words of which no two are related
 --   Decided g u v                  a relation that is given by its test
---   SameKey next s u v            the system leads u and v to the same key
+--   SameKey next s u v             the system leads u and v to the same key
 --   Among next s ks                every key that is reached is one of ks
 --   Exact                          a table of f's classes shows f after every text, in any pieces, and its rows are the classes
---   OneTable                      an output function has one table at most: first words and numbers
---   LeastTable                    no table that is sound gives f with fewer rows, however they are numbered and wherever it begins
---   HasTable                      an output function that some sound table gives has its table, with no more rows
---   MinimalTable                  a minimal machine in memory is that table, and the other way round: so it is the only one, and no
+--   OneTable                       an output function has one table at most: first words and numbers
+--   LeastTable                     no table that is sound gives f with fewer rows, however they are numbered and wherever it begins
+--   HasTable                       an output function that some sound table gives has its table, with no more rows
+--   MinimalTable                   a minimal machine in memory is that table, and the other way round: so it is the only one, and no
 --                                  machine that gives f has fewer rows
 --   Crowded                        n + 1 words of which no two are in one class are too many for n classes; where a test
 --                                  decides, there are either so many words or at most n classes
---   KeyClasses                    the keys of a system part the words into classes: a byte leads from class to class, there are
+--   KeyClasses                     the keys of a system part the words into classes: a byte leads from class to class, there are
 --                                  as many as keys are reached, and for each n at most n or n + 1 words with different keys
 use Rattle.std.specs.Prelude.{◌≡◌, ℕ, ◌+◌, ◌*◌, ◌<◌, ◌≤◌, Bool, true, ◌⊎◌, ◌↔◌, List, [], ◌∷◌, ◌++◌, length}
 use Rattle.std.proofs.Math.Option.{some}

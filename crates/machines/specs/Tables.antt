@@ -1,7 +1,7 @@
 -- A machine as a table in memory: rows of 257 numbers, what the row shows and then for each byte the row to go to.
 -- Assumes nothing.
---   SoundTable k t     t is k rows, and each row to go to is one of them
---   LeadsInside k t    the second half of that, as code reads it
+--   SoundTable k t      t is k rows, and each row to go to is one of them
+--   LeadsInside k t     the second half of that, as code reads it
 --   or0                 a number that may be missing, 0 where it is
 --   next t, output t    the table's machine
 --   walk t, seen t      its run and its trace

@@ -3,7 +3,7 @@
 --   Bytes w       each number of w is a byte
 --   joined ws     the words of ws, one after the other
 --   Less u v      u comes before v: it is shorter, or as long and smaller where they first differ
---   StrictTotal  the laws of a strict total order, of Less
+--   StrictTotal   the laws of a strict total order, of Less
 use Rattle.std.specs.Prelude.{◌≡◌, ℕ, ◌<◌, ◌⊎◌, List, [], ◌∷◌, ◌++◌, length}
 
 abbrev pub Word : Type 0

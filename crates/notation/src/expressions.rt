@@ -16,7 +16,7 @@ pub const MOST_NESTING: usize = 500;
 
 impl Reader<'_> {
     // p | q
-    #[cycle(atom_conjunction_expression_group_negation_repetition_sequence)]
+    #[cycle(parsing)]
     pub fn expression(&mut self, list: &mut Vec<u8>, depth: usize) -> Result<(), Fault>
         ensures { OnOk result (Parsed self.old self.new list.old.items list.new.items) }
     {
@@ -30,7 +30,7 @@ impl Reader<'_> {
     }
 
     // p & q
-    #[cycle(atom_conjunction_expression_group_negation_repetition_sequence)]
+    #[cycle(parsing)]
     fn conjunction(&mut self, list: &mut Vec<u8>, depth: usize) -> Result<(), Fault>
         ensures { OnOk result (Parsed self.old self.new list.old.items list.new.items) }
     {
@@ -44,7 +44,7 @@ impl Reader<'_> {
     }
 
     // p q
-    #[cycle(atom_conjunction_expression_group_negation_repetition_sequence)]
+    #[cycle(parsing)]
     fn sequence(&mut self, list: &mut Vec<u8>, depth: usize) -> Result<(), Fault>
         ensures { OnOk result (Parsed self.old self.new list.old.items list.new.items) }
     {
@@ -67,7 +67,7 @@ impl Reader<'_> {
     }
 
     // !p
-    #[cycle(atom_conjunction_expression_group_negation_repetition_sequence)]
+    #[cycle(parsing)]
     fn negation(&mut self, list: &mut Vec<u8>, depth: usize) -> Result<(), Fault>
         ensures { OnOk result (Parsed self.old self.new list.old.items list.new.items) }
     {
@@ -79,7 +79,7 @@ impl Reader<'_> {
     }
 
     // p*, p+ and p?
-    #[cycle(atom_conjunction_expression_group_negation_repetition_sequence)]
+    #[cycle(parsing)]
     fn repetition(&mut self, list: &mut Vec<u8>, depth: usize) -> Result<(), Fault>
         ensures { OnOk result (Parsed self.old self.new list.old.items list.new.items) }
     {
@@ -89,7 +89,7 @@ impl Reader<'_> {
     }
 
     // What stands for itself, or an expression in brackets.
-    #[cycle(atom_conjunction_expression_group_negation_repetition_sequence)]
+    #[cycle(parsing)]
     fn atom(&mut self, list: &mut Vec<u8>, depth: usize) -> Result<(), Fault>
         ensures { OnOk result (Parsed self.old self.new list.old.items list.new.items) }
     {
@@ -103,7 +103,7 @@ impl Reader<'_> {
     }
 
     // (p)
-    #[cycle(atom_conjunction_expression_group_negation_repetition_sequence)]
+    #[cycle(parsing)]
     fn group(&mut self, list: &mut Vec<u8>, depth: usize) -> Result<(), Fault>
         ensures { OnOk result (Parsed self.old self.new list.old.items list.new.items) }
     {

@@ -2,9 +2,9 @@
 --   FedSays k t i w o o' r    the answer r to a piece w, fed to the k rows of t from row i, and what it leaves of the
 --                             numbers o: exact if t is a table; a refusal writes nothing, and what lies behind the
 --                             piece's numbers stays
---   FedAlong k t i ws j s    pieces ws were fed, each from the row that the one before it led to; row j was the last,
+--   FedAlong k t i ws j s     pieces ws were fed, each from the row that the one before it led to; row j was the last,
 --                             and s is what they wrote, joined
---   InPieces                 then the joined text, fed at once, leads to row j and writes s
+--   InPieces                  then the joined text, fed at once, leads to row j and writes s
 use Rattle.std.specs.Prelude.{◌≡◌, ℕ, ◌<◌, List, [], ◌∷◌, ◌++◌, length, take, drop}
 use Rattle.machines.specs.Words.{Word, joined}
 use Rattle.machines.specs.Tables.{SoundTable, walk, seen}

@@ -1,8 +1,8 @@
 -- A list of patterns written as bytes, in prefix order. Assumes nothing.
 --   write p, write_list ps   the bytes of a pattern; of patterns, one after the other
 --   sound p, sound_list ps   every range goes from a byte to one that isn't smaller
---   ListOf s ps             the bytes s are the list of the patterns ps
---   OneList                 bytes are the writing of at most one list
+--   ListOf s ps              the bytes s are the list of the patterns ps
+--   OneList                  bytes are the writing of at most one list
 --   Stands s at w stop       the bytes w stand in s, from place `at` up to place `stop`
 use Rattle.std.specs.Prelude.{◌≡◌, ℕ, ◌≤◌, Bool, true, ◌&&◌, List, [], ◌∷◌, ◌++◌, length, drop, nat_le, nat_lt}
 use Rattle.patterns.specs.Patterns.{Pattern, nothing, empty, range, seq, union, inter, compl, star}

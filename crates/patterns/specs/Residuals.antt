@@ -1,7 +1,7 @@
 -- What a word leaves of a pattern. Assumes nothing.
 --   Language              a set of words
 --   Of p                  the words that p matches
---   SameResidual L u v   u and v leave the same of L: whatever is put behind both, either both are in L or neither is
+--   SameResidual L u v    u and v leave the same of L: whatever is put behind both, either both are in L or neither is
 use Rattle.std.specs.Prelude.{◌≡◌, true, ◌↔◌, ◌++◌}
 use Rattle.machines.specs.Words.{Word, Bytes}
 use Rattle.patterns.specs.Patterns.{Pattern, matches}

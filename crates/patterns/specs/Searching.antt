@@ -2,8 +2,8 @@
 --   anywhere p         anything, then p: it matches the texts that have a last part that p matches, the empty part included
 --   ends ps w          the patterns that end after the text w, as bits, the list's first lowest
 --   ends_along ps u w  those bits after each byte of w, where u was read before
---   SameSearch ps     two texts that a search for the list need not tell apart
---   FitSearch n ps    each 'anything, then the pattern' fits into n classes, and so does the list's table
+--   SameSearch ps      two texts that a search for the list need not tell apart
+--   FitSearch n ps     each 'anything, then the pattern' fits into n classes, and so does the list's table
 use Rattle.std.specs.Prelude.{ℕ, ◌+◌, ◌*◌, ◌≤◌, Bool, true, false, List, [], ◌∷◌, ◌++◌, length}
 use Rattle.machines.specs.Words.{Word}
 use Rattle.machines.specs.Classes.{Classes}

@@ -1,7 +1,7 @@
 -- How much must be told apart to work a pattern out from its parts. Assumes nothing.
 --   Behind L w v         v stands in w behind a front that is in L
 --   Alive M v            something can still follow v in M
---   SameBehind L M w x  the same things are left of M behind the fronts of w and of x that are in L; what can't
+--   SameBehind L M w x   the same things are left of M behind the fronts of w and of x that are in L; what can't
 --                        match any more is set aside
 --   Indistinct p u v     the step of the work at p's top doesn't tell u and v apart
 --   Top n p              that step tells at most n classes of words apart

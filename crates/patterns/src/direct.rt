@@ -15,7 +15,7 @@ pub enum Searched {
 }
 
 // Whether the pattern at a place of the list matches the word.
-#[cycle(matches_at_sequence_matches_star_matches)]
+#[cycle(matching)]
 fn matches_at(list: &[u8], at: usize, word: &[u8]) -> bool
     requires { SomePattern list.now at }
     ensures { MatchesAt list.now at word.now result }
@@ -49,7 +49,7 @@ fn in_range(low: u8, high: u8, word: &[u8]) -> bool
 }
 
 // Whether some front of the word matches the first pattern and the rest the second.
-#[cycle(matches_at_sequence_matches_star_matches)]
+#[cycle(matching)]
 fn sequence_matches(list: &[u8], first: usize, second: usize, word: &[u8]) -> bool
     requires first { SomePattern list.now first }
     requires second { SomePattern list.now second }
@@ -65,7 +65,7 @@ fn sequence_matches(list: &[u8], first: usize, second: usize, word: &[u8]) -> bo
 }
 
 // Whether the word is empty, or a front that isn't matches the pattern and the rest is again such a word.
-#[cycle(matches_at_sequence_matches_star_matches)]
+#[cycle(matching)]
 fn star_matches(list: &[u8], at: usize, word: &[u8]) -> bool
     requires { SomePattern list.now at }
     ensures { StarMatches list.now at word.now result }

@@ -2,7 +2,7 @@
 --   marks n cuts                  cuts with a mark at a range's first byte and at the byte behind its last
 --   Marked s cuts n               of each range before place n of s, its first byte and the byte behind its last are marked in cuts
 --   Divided cuts column least j n    the bytes below n are in the columns 0 to j: at each marked byte a new one begins
---   ColumnsOf s c column least   c columns that no range of s divides
+--   ColumnsOf s c column least    c columns that no range of s divides
 use Rattle.std.specs.Prelude.{◌≡◌, ℕ, ◌+◌, ◌<◌, ◌≤◌, List, slice_index, slice_set}
 use Rattle.machines.specs.Columns.{Columns, Respects}
 use Rattle.patterns.specs.declared.node.Node.{Node}

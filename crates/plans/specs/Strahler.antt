@@ -2,9 +2,9 @@
 --   higher a b               how many tables two parts need that need a and b: the one that needs more is worked out first, and
 --                            its table is kept while the other is worked out
 --   strahler p               how many tables working out p needs (its Strahler number)
---   ExtentOf s at stop n    the pattern at a place of s, if one stands there, ends at stop and needs n tables
+--   ExtentOf s at stop n     the pattern at a place of s, if one stands there, ends at stop and needs n tables
 --   Measured s ends tables from    so do all places from one on, by what stands in ends and tables
---   TwelveTables            12 suffice for a pattern of at most 4,096 bytes
+--   TwelveTables             12 suffice for a pattern of at most 4,096 bytes
 use Rattle.std.specs.Prelude.{◌≡◌, ℕ, ◌+◌, ◌≤◌, cond, List, length, nat_lt, slice_index}
 use Rattle.patterns.specs.Patterns.{Pattern, nothing, empty, range, seq, union, inter, compl, star}
 use Rattle.patterns.specs.Lists.{write}

@@ -2,7 +2,7 @@
 --   IsDead c t r       row r shows 0, and each of c columns leads back to it
 --   DeadSays c t r b   b says whether it is one
 --   DeadRow c k t d    d is the least dead one of k rows, or k if there is none; nothing is shown from it on; and if the
---                       machine is minimal, d alone is dead, and from each other row on something is shown
+--                      machine is minimal, d alone is dead, and from each other row on something is shown
 use Rattle.std.specs.Prelude.{◌≡◌, ℕ, ◌<◌, ◌≤◌, Bool, true, false, List, ◌≢◌}
 use Rattle.machines.specs.Words.{Word, Bytes}
 use Rattle.machines.specs.Machines.{run}

@@ -2,7 +2,7 @@ use Rattle.std.proofs.Common.{sym, ◌∙◌}
 use Rattle.std.proofs.lemmas.Result.{IfOk-weaker}
 use Rattle.notation.proofs.Moving.{past_past}
 use Rattle.notation.proofs.Adding.{begun, added_infix, added_not, unions, intersections, sequences}
-use Rattle.notation.proofs.scan.Reader.+atom_conjunction_expression_group_negation_repetition_sequence.Goals as goal
+use Rattle.notation.proofs.scan.Reader.+parsing.Goals as goal
 
 pub expression-put_before-requires : goal.expression-put_before-requires
 expression-put_before-requires t c = begun _ _ _ c.len-start.ensures c.args.list.now.ok.0 c.conjunction.new.list.ok.0 c.in_ok-conjunction.ensures.added

@@ -5,8 +5,8 @@ use Rattle.patterns.specs.Promises.{PatternAt}
 use Rattle.patterns.proofs.Extents.{node_later, pattern_later, end_none}
 use Rattle.patterns.proofs.Matching.{node_kind, matches_leaf, matches_one, matches_two, some_first, some_second, null_length, or_second, and_second, cut_serves, front_fails, rest_fails}
 use Rattle.patterns.proofs.Cutting.{cut_some, cut_none, star_some, star_none}
-use Rattle.patterns.proofs.direct.+matches_at_sequence_matches_star_matches.Goals as goal
-use Rattle.patterns.proofs.direct.+matches_at_sequence_matches_star_matches.Goals.{sequence_matches-else-matches_at-via-then-matches_at+else-matches_at-2, sequence_matches-else-matches_at-via-else-matches_at, star_matches-else-matches_at-via-then-matches_at+else-star_matches, star_matches-else-matches_at-via-else-matches_at}
+use Rattle.patterns.proofs.direct.+matching.Goals as goal
+use Rattle.patterns.proofs.direct.+matching.Goals.{sequence_matches-else-matches_at-via-then-matches_at+else-matches_at-2, sequence_matches-else-matches_at-via-else-matches_at, star_matches-else-matches_at-via-then-matches_at+else-star_matches, star_matches-else-matches_at-via-else-matches_at}
 
 pub matches_at-returns-in-Nothing : goal.matches_at-returns-in-Nothing
 matches_at-returns-in-Nothing t c = matches_leaf (node_kind c.width.result c.in-Some.ensures c.width.ensures c.in-Nothing.is) _ _ (λ ps. refl)

@@ -2,7 +2,7 @@ use Rattle.std.proofs.Common.{◌≡◌, ℕ, ◌+◌, ◌-◌, ◌*◌, ◌<◌
 use Rattle.patterns.specs.Patterns.{Pattern, matches}
 use Rattle.patterns.specs.Promises.{PatternAt}
 use Rattle.patterns.proofs.Cutting.{Here, Part}
-use Rattle.patterns.proofs.direct.+matches_at_sequence_matches_star_matches.Given as goal
+use Rattle.patterns.proofs.direct.+matching.Given as goal
 
 -- what is left of the list and of the word; a repetition and a sequence come before their parts
 abbrev pub decreases-matches_at : goal.decreases-matches_at

@@ -1,5 +1,5 @@
 use Rattle.std.proofs.Common.{◌+◌, ◌-◌, ◌*◌, length}
-use Rattle.notation.proofs.scan.Reader.+atom_conjunction_expression_group_negation_repetition_sequence.Given as goal
+use Rattle.notation.proofs.scan.Reader.+parsing.Given as goal
 
 -- what is left of the text; at one place the looser come before the tighter
 abbrev pub decreases-expression : goal.decreases-expression
