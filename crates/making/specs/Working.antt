@@ -9,7 +9,7 @@
 --   TwoSays                    for the node over every two patterns that stand there, one behind the other
 --   AnywhereSays               for every pattern that stands at the place, searched anywhere
 --   Sides, Ordered             of two parts the one that needs more tables is worked out first
-use Rattle.std.specs.Prelude.{◌≡◌, ℕ, ◌*◌, ◌<◌, ◌≤◌, Bool, true, false, List, [], ◌∷◌, length, Some, None, Option}
+use Rattle.std.specs.Prelude.{◌≡◌, ℕ, ◌*◌, ◌<◌, ◌≤◌, Bool, true, false, List, length, Some, None, Option}
 use Rattle.machines.specs.Inside.{Inside}
 use Rattle.patterns.specs.declared.node.Node.{Node}
 use Rattle.patterns.specs.declared.node.Node.TheVariants.{Nothing, Empty, Range, Sequence, Union, Intersection, Complement, Star}
