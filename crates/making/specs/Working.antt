@@ -2,10 +2,10 @@
 --   Planned s ends tables c column least    what is known of the list s before: the extents of its patterns, and columns that its
 --                                           ranges respect
 --   Workable s at m room       a pattern stands at the place, and there is room for the tables of m words that it needs
---   WorkableTwo               the same of a node's two parts
+--   WorkableTwo                the same of a node's two parts
 --   over m p q                 the pattern of a node over two parts; of a node that takes fewer, whatever
 --   Done column c p n k t      p fits into n, and t is its finished table of k rows
---   DoneSays, WorkedSays      so for the pattern, or it doesn't fit; for every pattern that stands at the place
+--   DoneSays, WorkedSays       so for the pattern, or it doesn't fit; for every pattern that stands at the place
 --   TwoSays                    for the node over every two patterns that stand there, one behind the other
 --   AnywhereSays               for every pattern that stands at the place, searched anywhere
 --   Sides, Ordered             of two parts the one that needs more tables is worked out first

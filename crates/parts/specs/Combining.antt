@@ -1,7 +1,7 @@
 -- Finished tables of parts in lent words, and what the step over them must give. Assumes nothing.
 --   part_words a t              the words from the part's first on
---   PartInside c a t           its rows stand there, and lead to one another
---   PartFinished column p a t  its table is p's
+--   PartInside c a t            its rows stand there, and lead to one another
+--   PartFinished column p a t   its table is p's
 --   Changes f, Combines f       whatever pattern the part is, or the two parts are, the step gives the table of what f makes of them,
 --                               or says that it tells too much apart
 --   Complemented k t u          the outputs of the first k rows are turned, so that a pattern's table becomes that of its complement

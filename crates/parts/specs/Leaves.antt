@@ -3,7 +3,7 @@
 --   leaf_next l i x             the state after one more byte
 --   leaf_shows l i              1 where the word that was read matches
 --   leaf_step l k x             the same of a key of one number
---   SoundLeaf l                a range goes from a byte to one that isn't smaller
+--   SoundLeaf l                 a range goes from a byte to one that isn't smaller
 --   LeafColumns column least l the leaf doesn't tell bytes of one column apart
 use Rattle.std.specs.Prelude.{ℕ, ◌<◌, ◌≤◌, cond, ◌&&◌, List, [], ◌∷◌, ◌==◌, nat_le, slice_index}
 use Rattle.machines.specs.Columns.{Respects}

@@ -1,6 +1,6 @@
 -- What the steps are lent. Assumes nothing.
 --   Few n                            rows can be numbered in words of 32 bits, also from 1 on: there are fewer than 2 ^ 32 - 1
---   HasByteColumns c column least      the columns of the bytes as two lists
+--   HasByteColumns c column least    the columns of the bytes as two lists
 --   Rooms n tables raw block work    the lengths of lent memory: enough for n rows in each table, and for finding them
 use Rattle.std.specs.Prelude.{ℕ, ◌-◌, ◌*◌, ◌^◌, ◌<◌, ◌≤◌, List, length, slice_index}
 use Rattle.machines.specs.Columns.{Columns}

@@ -1,8 +1,8 @@
 -- The step of the work at a pattern's top: from finished tables of its parts to its own. Assumes nothing.
 --   Finished column p k t     the k rows of t are the classes of words that leave the same of p, by first words, and show which match
 --   Distinguished, Distinguishes    a system was explored and its rows parted into blocks; or it has more than n keys
---   StepDone, StepSays      the step at p's top tells at most n classes apart, and t is p's finished table; or it tells more apart
---   Turned k t u             the outputs of the first k rows are turned, 0 into 1 and all else into 0, and nothing else is
+--   StepDone, StepSays        the step at p's top tells at most n classes apart, and t is p's finished table; or it tells more apart
+--   Turned k t u              the outputs of the first k rows are turned, 0 into 1 and all else into 0, and nothing else is
 --   Roomy n len               room for n keys of a row and a set of rows each, and for what finds them
 use Rattle.std.specs.Prelude.{◌≡◌, ℕ, ◌+◌, ◌*◌, ◌/◌, ◌<◌, ◌≤◌, cond, List, length, Some, None, Option, ◌==◌}
 use Rattle.std.proofs.Math.Option.{some}

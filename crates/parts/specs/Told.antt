@@ -2,9 +2,9 @@
 -- class. Assumes nothing.
 --   Finite E          E has finitely many classes
 --   Steps E           the class of a word with a byte behind it depends on the word's class alone
---   ToldApart p      both, of what the step at p's top tells apart
+--   ToldApart p       both, of what the step at p's top tells apart
 --   Left p            p leaves finitely many different things
---   PartsTell        for each kind of part; and so each pattern leaves finitely many things, and fits into some number of classes
+--   PartsTell         for each kind of part; and so each pattern leaves finitely many things, and fits into some number of classes
 use Rattle.std.specs.Prelude.{◌≡◌, ℕ, ◌<◌, ◌≤◌, true, List, [], ◌∷◌, ◌++◌}
 use Rattle.machines.specs.Words.{Word, Bytes}
 use Rattle.machines.specs.Classes.{Classes}

@@ -1,12 +1,12 @@
 -- Facts about the definitions that are easily got wrong. Assumes nothing.
 --   a, b           the bytes 97 and 98
 --   chain          four times a, then b
---   not-..         not p matches every word that p doesn't, of any length, the empty one too
---   many-..        many p always matches the empty word; empty parts add nothing, nor does repeating once more
+--   not_..         not p matches every word that p doesn't, of any length, the empty one too
+--   many_..        many p always matches the empty word; empty parts add nothing, nor does repeating once more
 --   last_byte, every_byte    a range goes up to 255 and with it
 --   same_place, same_word    a b and b end at one place of a text, but 'and' is of one word, and no word is both
 --   short, later, later_without, apart    no continuation of at most three bytes tells two words apart, and one of four does
---   OnceWrong     all of them
+--   OnceWrong      all of them
 use Rattle.std.specs.Prelude.{◌≡◌, ℕ, ◌<◌, ◌≤◌, true, false, ◌↔◌, [], ◌∷◌, length}
 use Rattle.machines.specs.Words.{Word}
 use Rattle.patterns.specs.Patterns.{Pattern, empty, range, seq, inter, compl, star, matches}
