@@ -39,10 +39,17 @@ module _ (column : ℕ → ℕ) (l r : List ℕ) where
   pair_reach [] i j = refl
   pair_reach (b ∷ w) i j = pair_reach w (leads column l i b) (leads column r j b)
 
-  -- what two tables give, their pairs show together
+  -- what two tables give, their pairs show together, whatever is made of the two outputs
+  abbrev pub both_shows : (ℕ → ℕ → ℕ) → List ℕ → ℕ
+  both_shows h k = h (shown l (get_or k 0 0)) (shown r (get_or k 1 0))
+
+  both_gives : (h : ℕ → ℕ → ℕ) (f g : Word → ℕ) → Gives f (leads column l) (shown l) → Gives g (leads column r) (shown r)
+      → (w : Word) → Bytes w → both_shows h (reach (pair_next column l r) (0 ∷ 0 ∷ []) w) ≡ h (f w) (g w)
+  both_gives h f g p q w o = ap (both_shows h) (pair_reach w 0 0) ∙ ap (λ z. h z (shown r (run (leads column r) 0 w))) (p w o) ∙ ap (h (f w)) (q w o)
+
   pub pair_gives : (j : Join) (f g : Word → ℕ) → Gives f (leads column l) (shown l) → Gives g (leads column r) (shown r)
       → (w : Word) → Bytes w → pair_shows j l r (reach (pair_next column l r) (0 ∷ 0 ∷ []) w) ≡ join j (f w) (g w)
-  pair_gives j f g p q w o = ap (pair_shows j l r) (pair_reach w 0 0) ∙ ap (λ z. join j z (shown r (run (leads column r) 0 w))) (p w o) ∙ ap (join j (f w)) (q w o)
+  pair_gives j = both_gives (join j)
 
   -- two words lead to one pair exactly if they lead to one row in each table
   pub pair_same : (u v : Word)
@@ -54,6 +61,10 @@ module _ (column : ℕ → ℕ) (l r : List ℕ) where
   )
 
   -- and the table of the pairs gives what the two tables give together
+  pub both_complete : (h : ℕ → ℕ → ℕ) (f g : Word → ℕ) {count n most k : ℕ} {ks t : List ℕ} → Gives f (leads column l) (shown l) → Gives g (leads column r) (shown r)
+      → Complete (pair_next column l r) (0 ∷ 0 ∷ []) (both_shows h) column count n most k ks t → Gives (λ w. h (f w) (g w)) (leads column t) (shown t)
+  both_complete h f g p q c = complete_gives c (λ w. h (f w) (g w)) (both_gives h f g p q)
+
   pub pair_complete : (j : Join) (f g : Word → ℕ) {count n most k : ℕ} {ks t : List ℕ} → Gives f (leads column l) (shown l) → Gives g (leads column r) (shown r)
       → Complete (pair_next column l r) (0 ∷ 0 ∷ []) (pair_shows j l r) column count n most k ks t → Gives (λ w. join j (f w) (g w)) (leads column t) (shown t)
-  pair_complete j f g p q c = complete_gives c (λ w. join j (f w) (g w)) (pair_gives j f g p q)
+  pair_complete j f g p q c = both_complete (join j) f g p q c

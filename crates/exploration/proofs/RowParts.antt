@@ -1,8 +1,9 @@
 -- A row as a part of a table: what is written through it is written into the table, and nothing behind it. Assumes nothing.
 use Rattle.std.proofs.Common.{◌≡◌, ℕ, ◌+◌, ◌-◌, ◌*◌, ◌<◌, ◌≤◌, List, ◌++◌, length, take, drop, set, sym, ap, ◌∙◌, arith}
 use borrow.Rule.Slice.PartMut.{put_mid, post_of, put_same, same_len_mid}
-use Rattle.std.proofs.lemmas.List.{set-append_left, set-append_right, length-take-le, length-take, length-drop}
+use Rattle.std.proofs.lemmas.List.{set-append_left, set-append_right, length-take-le}
 use Rattle.std.proofs.lemmas.Slice.{drop-put_mid}
+use Rattle.machines.proofs.Cells.{row_long}
 
 -- the table with other cells in a row
 abbrev pub with_row : ℕ → List ℕ → List ℕ → List ℕ
@@ -26,9 +27,6 @@ row_first i t v h w = ap (λ z. set t z v) zero_on ∙ ap (λ z. set z (257 * i 
   where
     zero_on : 257 * i ≡ 257 * i + 0
     zero_on = omega arith
-
-pub row_long : (i : ℕ) (t : List ℕ) → 257 * i + 257 ≤ length t → length (take (257 * i + 257 - 257 * i) (drop (257 * i) t)) ≡ 257
-row_long i t h = simp (length-take, length-drop) (omega arith)
 
 pub row_wide : (i : ℕ) (t cells : List ℕ) → length cells ≡ 257 → 257 * i + 257 ≤ length t → length (with_row i t cells) ≡ length t
 row_wide i t cells e h = same_len_mid (257 * i) (257 * i + 257 - 257 * i) t cells (e ∙ sym (row_long i t h))

@@ -5,7 +5,8 @@ use Rattle.machines.specs.Columns.{Columns, shown}
 use Rattle.machines.specs.Systems.{Key, reach, Lawful, Pairwise}
 use Rattle.exploration.specs.Keys.{key_at, ClassIs}
 use Rattle.exploration.specs.Exploring.{word_at, Partly, On, TooMany, Complete}
-use Rattle.exploration.proofs.RowParts.{with_row, row_set, row_wide, row_long, row_first}
+use Rattle.machines.proofs.Cells.{row_long}
+use Rattle.exploration.proofs.RowParts.{with_row, row_set, row_wide, row_first}
 use Rattle.exploration.proofs.Steps.{begun, again, new_apart, new, same_shows, rekey, retable, good_reach, next_row, all_found, ended}
 
 module _ {f : Key → ℕ → Key} {s : Key} {shows : Key → ℕ} {column least : ℕ → ℕ} {count : ℕ} (columns : Columns count column least) where

@@ -9,16 +9,16 @@ use Rattle.machines.proofs.Pigeons.{pairwise_many}
 use Rattle.machines.proofs.Firsts.{numbered_firsts, minimal_rows, explored_as}
 use Rattle.exploration.specs.Exploring.{Says}
 use Rattle.exploration.specs.Pairs.{pair_next}
-use Rattle.exploration.proofs.Paired.{pair_same}
+use Rattle.exploration.proofs.Paired.{pair_same, both_complete}
 use Rattle.patterns.specs.Patterns.{Pattern, matches}
 use Rattle.patterns.specs.Sizes.{Fits}
 use Rattle.patterns.specs.Searching.{anywhere, bit, ends, SameSearch}
-use Rattle.listing.specs.LastBit.{longer_shows}
+use Rattle.listing.specs.LastBit.{with_bit, longer_shows}
 use Rattle.listing.specs.Listed.{Listed, NextSays, JoinSays}
 use Rattle.listing.proofs.Ends.{bit_small, residual_nerode, search_nerode, nerode_search, ends_last, ends_small, ends_more}
 use Rattle.listing.proofs.Fronts.{same_more, same_front, fit_more}
 use Rattle.listing.proofs.Pairing.{pair_minimal}
-use Rattle.listing.proofs.LastBit.{with_bit_sum, longer_complete}
+use Rattle.listing.proofs.LastBit.{with_bit_sum}
 
 module _ (column : ℕ → ℕ) (c n : ℕ) (ps : List Pattern) (p : Pattern) (front next : List ℕ) {fronts nexts : ℕ}
     (L : Listed column c ps n fronts front) (R : Minimal (λ w. bit (matches (anywhere p) w)) nexts (leads column next) (shown next)) where
@@ -50,7 +50,7 @@ module _ (column : ℕ → ℕ) (c n : ℕ) (ps : List Pattern) (p : Pattern) (f
     where
       gives : Gives (ends (ps ++ p ∷ [])) (leads column t) (shown t)
       gives w ok =
-          longer_complete column front next (length ps) (ends ps) (λ w. bit (matches (anywhere p) w)) L.minimal.gives R.gives X w ok
+          both_complete column front next (with_bit (length ps)) (ends ps) (λ w. bit (matches (anywhere p) w)) L.minimal.gives R.gives X w ok
           ∙ with_bit_sum (length ps) (ends ps w) (bit (matches (anywhere p) w)) room (ends_small ps w) (bit_small (matches (anywhere p) w))
           ∙ sym (ends_more ps p w)
 

@@ -3,7 +3,8 @@ use Rattle.exploration.specs.Keys.{key_at}
 use Rattle.exploration.specs.Hashed.{Indexed}
 use Rattle.exploration.specs.Exploring.{On}
 use Rattle.exploration.proofs.Products.{next_row, row_within}
-use Rattle.exploration.proofs.RowParts.{with_row, row_long, row_behind}
+use Rattle.machines.proofs.Cells.{row_long}
+use Rattle.exploration.proofs.RowParts.{with_row, row_behind}
 use Rattle.exploration.proofs.Settling.{on_good, on_next, part_shown, settled_none, part_old, part_new}
 use Rattle.exploration.proofs.explore.explore_row.Goals as goal
 use Rattle.exploration.proofs.explore.explore_row.Goals.{then-to-count, else-to-count}
