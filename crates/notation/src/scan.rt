@@ -1,5 +1,6 @@
 // The text and the place that reading has come to: bytes, what separates them, and names.
-ghost use Rattle.std.specs.Prelude.{◌≡◌, ◌+◌, ◌<◌, ◌≤◌, length, IfOk, MatchBool, MatchOption, OnOk, slice_index};
+ghost use Rattle.std.specs.Prelude.{◌≡◌, ◌+◌, ◌<◌, ◌≤◌, length, IfOk, MatchBool, MatchOption, OnOk, ◌||◌, ◌==◌, slice_index};
+ghost use Rattle.std.specs.Char.{is_ascii_alphabetic};
 ghost use Rattle.notation.specs.Reading.{On, Past, Within};
 
 use crate::error::{Expected, Fault};
@@ -20,7 +21,9 @@ pub struct Reader<'a> {
 
 impl Reader<'_> {
     // What is missing at the place.
-    pub fn fault(&self, expected: Expected) -> Fault {
+    pub fn fault(&self, expected: Expected) -> Fault
+        ensures { result ≡ Fault.At self.now.at expected }
+    {
         Fault::At(self.at, expected)
     }
 
@@ -124,7 +127,9 @@ impl Reader<'_> {
     }
 }
 
-pub fn begins_word(byte: u8) -> bool {
+pub fn begins_word(byte: u8) -> bool
+    ensures { result ≡ (is_ascii_alphabetic byte || byte == 95) }
+{
     byte.is_ascii_alphabetic() || byte == b'_'
 }
 

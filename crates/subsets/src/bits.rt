@@ -142,9 +142,9 @@ pub fn renew(
     ensures set { to.new ≡ sets.marks result dead (sets.moved table.now dead at from.now (length to.old) rows) }
 {
     moves(table, columns, rows, dead, at, from, to);
-    let mark = accepts(table, rows, to);
-    mark_first(to, mark, dead);
-    mark
+    let reached = accepts(table, rows, to);
+    mark_first(to, reached, dead);
+    reached
 }
 
 // Whether a row of the set shows 1.
