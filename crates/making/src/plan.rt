@@ -1,19 +1,14 @@
 // What is known of a list before it is worked out.
-use parts::bytes::ByteColumns;
+ghost use Rattle.making.specs.Planning.{Planned};
+
+use machines::columns::ByteColumns;
+use plans::extents::Extents;
 
 // The list, for each of its places where its pattern ends and how many tables it needs, and the columns of the bytes.
 #[derive(Clone, Copy)]
 pub struct Plan<'a> {
     pub list: &'a [u8],
-    pub ends: &'a [u32],
-    pub tables: &'a [u32],
+    pub extents: Extents<'a>,
     pub columns: ByteColumns<'a>,
-}
-
-// Two parts of a node, in the order in which they are worked out.
-#[derive(Clone, Copy)]
-pub struct Order {
-    pub one: usize,
-    pub other: usize,
-    pub turned: bool,
+    pub ghost planned: { Planned list.now extents.ends.now extents.tables.now columns.count columns.column.now columns.least.now },
 }

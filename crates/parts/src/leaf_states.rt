@@ -5,6 +5,7 @@ ghost use Rattle.parts.specs.Leaves.{leaf_next, leaf_shows, leaf_step, LeafColum
 
 use crate::leaf::Leaf;
 use exploration::system::System;
+use machines::columns::ByteColumns;
 
 // The state after one more letter.
 fn after(leaf: Leaf, state: u32, letter: u32) -> u32
@@ -25,19 +26,17 @@ fn after(leaf: Leaf, state: u32, letter: u32) -> u32
 #[derive(Drop)]
 pub struct LeafStates<'a> {
     pub leaf: Leaf,
-    pub columns: usize,
-    pub column: &'a [u32],
-    pub least: &'a [u32],
+    pub columns: ByteColumns<'a>,
 }
 
 impl<'a> System for LeafStates<'a> {
     ghost width = { λ _. 1 };
 
-    ghost count = { λ s. s.columns };
+    ghost count = { λ s. s.columns.count };
 
-    ghost column = { λ s b. slice_index s.column.now b };
+    ghost column = { λ s b. slice_index s.columns.column.now b };
 
-    ghost least = { λ s j. slice_index s.least.now j };
+    ghost least = { λ s j. slice_index s.columns.least.now j };
 
     ghost begin = { λ _. 0 ∷ [] };
 
@@ -45,7 +44,7 @@ impl<'a> System for LeafStates<'a> {
 
     ghost shows = { λ s k. leaf_shows s.leaf (slice_index k 0) };
 
-    ghost ready = { λ s. Columns s.columns (λ b. slice_index s.column.now b) (λ j. slice_index s.least.now j) × LeafColumns (λ b. slice_index s.column.now b) (λ j. slice_index s.least.now j) s.leaf × (s.columns ≤ length s.least.now) };
+    ghost ready = { λ s. LeafColumns (λ b. slice_index s.columns.column.now b) (λ j. slice_index s.columns.least.now j) s.leaf × (s.columns.count ≤ length s.columns.least.now) };
 
     ghost good = { λ _ k. length k ≡ 1 };
 
@@ -54,7 +53,7 @@ impl<'a> System for LeafStates<'a> {
     }
 
     fn columns(&self) -> usize {
-        self.columns
+        self.columns.count
     }
 
     fn start(&self, out: &mut [u32]) {
@@ -62,14 +61,15 @@ impl<'a> System for LeafStates<'a> {
     }
 
     fn step(&self, key: &[u32], at: usize, out: &mut [u32]) {
-        out[0] = after(self.leaf, key[0], self.least[at]);
+        let least = self.columns.least;
+        out[0] = after(self.leaf, key[0], least[at]);
     }
 
     fn show(&self, key: &[u32]) -> u32 {
         match self.leaf {
             Leaf::Nothing => 0,
-            Leaf::Empty => if key[0] == 0 { 1 } else { 0 },
-            Leaf::Range(_, _) => if key[0] == 1 { 1 } else { 0 },
+            Leaf::Empty => u32::from(key[0] == 0),
+            Leaf::Range(_, _) => u32::from(key[0] == 1),
         }
     }
 }

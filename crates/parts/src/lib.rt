@@ -2,7 +2,6 @@
 
 #![tactic(auto)]
 
-pub mod bytes;
 pub mod distinguish;
 pub mod leaf;
 pub mod leaf_states;

@@ -1,5 +1,8 @@
 // Tables that stand one behind the other in lent words.
-ghost use Rattle.std.specs.Prelude.{◌≡◌, ℕ, ◌≤◌, length, drop};
+ghost use Rattle.std.specs.Prelude.{◌≡◌, drop};
+ghost use Rattle.parts.specs.Combining.{PartInside, part_words};
+
+use machines::raw::RawTable;
 
 // A finished table that stands in lent words from `at` on.
 #[derive(Clone, Copy)]
@@ -8,13 +11,11 @@ pub struct Part {
     pub rows: usize,
 }
 
-impl Part {
-    // The words from the table's first on.
-    pub fn words(self, tables: &[u32]) -> &[u32]
-        requires { self.at ≤ length tables.now }
-        ensures { result.now ≡ drop self.at tables.now }
-    {
-        let at = self.at;
-        &tables[at..]
-    }
+// The part's table.
+pub fn table_of(part: Part, columns: usize, tables: &[u32]) -> RawTable<'_>
+    requires { PartInside columns part tables.now }
+    ensures { (result.words.now ≡ part_words part tables.now) × (result.columns ≡ columns) × (result.rows ≡ part.rows) }
+{
+    let at = part.at;
+    RawTable::new(&tables[at..], columns, part.rows)
 }

@@ -1,21 +1,19 @@
 // The step of the work at each kind of part. The table that comes of it stands at the front of `tables`, where a part's may have stood.
-ghost use Rattle.std.specs.Prelude.{◌≡◌, ℕ, ◌+◌, ◌*◌, ◌/◌, ◌≤◌, List, [], ◌∷◌, length, if◌then◌else◌, nat_eq, slice_index};
-ghost use Rattle.patterns.specs.Patterns.{seq, union, inter, star};
-ghost use Rattle.exploration.specs.Pairs.{pair_next, pair_shows};
-ghost use Rattle.subsets.specs.Sets.{followed, unread, follow_shows, again, whole};
-ghost use Rattle.parts.specs.Combining.{part_words, PartInside, Changes, Combines, Complemented};
+ghost use Rattle.std.specs.Prelude.{◌≡◌, ℕ, ◌+◌, ◌*◌, ◌/◌, ◌≤◌, List, [], ◌∷◌, length, take, drop, if◌then◌else◌, nat_eq, slice_index};
+ghost use Rattle.patterns.specs.Patterns.{seq, star};
+ghost use Rattle.exploration.specs.Pairs.{pair_next, pair_shows, joined};
+ghost use Rattle.parts.specs.Combining.{part_words, PartInside, joined_pattern, Changes, Combines, Complemented};
 ghost use Rattle.parts.specs.Leaves.{leaf_pattern, SoundLeaf, LeafColumns};
-ghost use Rattle.parts.specs.Rooms.{HasByteColumns, Rooms};
-ghost use Rattle.parts.specs.Steps.{Distinguishes, StepSays};
+ghost use Rattle.parts.specs.Rooms.{Rooms};
+ghost use Rattle.parts.specs.Steps.{raw_area, block_area, Distinguishes, FollowSays, RepeatSays, StepSays};
 
-use crate::bytes::ByteColumns;
-use crate::distinguish::distinguish;
+use crate::distinguish::{distinguish, join_blocks};
 use crate::leaf::Leaf;
 use crate::leaf_states::LeafStates;
-use crate::part::Part;
-use exploration::pairs::{Join, Pair};
+use crate::part::{Part, table_of};
+use exploration::pairs::{Connective, Pair};
+use machines::columns::ByteColumns;
 use refinement::dead_row::dead_row;
-use refinement::quotient::quotient;
 use subsets::follow::Follow;
 use subsets::repeat::Repeat;
 
@@ -25,155 +23,84 @@ pub fn leaf(
     columns: ByteColumns<'_>,
     most: usize,
     tables: &mut [u32],
-    raw: &mut [u32],
-    block: &mut [u32],
     work: &mut [u32],
 ) -> Option<usize>
-    requires columns { HasByteColumns columns.count columns.column.now columns.least.now }
-    requires room { Rooms most (length tables.old) (length raw.old) (length block.old) (length work.old) }
+    requires room { Rooms most (length tables.old) (length work.old) }
+    requires long { columns.count ≤ length columns.least.now }
     requires sound { SoundLeaf leaf }
     requires respected { LeafColumns (λ b. slice_index columns.column.now b) (λ j. slice_index columns.least.now j) leaf }
     ensures { StepSays (λ b. slice_index columns.entry.column.now b) columns.entry.count (leaf_pattern leaf) most tables.new result }
 {
-    let states = LeafStates {
-        leaf,
-        columns: columns.count,
-        column: columns.column,
-        least: columns.least,
-    };
-    let Some(rows) = distinguish(&states, most, raw, block, work) else {
-        return None;
-    };
-    Some(quotient(raw, columns.count, rows, block, work, tables))
+    let rows = distinguish(&LeafStates { leaf, columns }, most, work)?;
+    Some(join_blocks(columns.count, rows, most, work, tables))
 }
 
 // Two parts side by side, in blocks that aren't numbered yet.
 fn pair<'x>(
-    join: Join,
+    join: Connective,
     first: Part,
     second: Part,
     columns: ByteColumns<'x>,
     most: usize,
     tables: &'x [u32],
-    raw: &mut [u32],
-    block: &mut [u32],
     work: &mut [u32],
 ) -> Option<usize>
-    requires columns { HasByteColumns columns.count columns.column.now columns.least.now }
-    requires room { Rooms most (length tables.now) (length raw.old) (length block.old) (length work.old) }
+    requires room { Rooms most (length tables.now) (length work.old) }
     requires first { PartInside columns.count first tables.now }
     requires second { PartInside columns.count second tables.now }
-    ensures { Distinguishes (pair_next (λ b. slice_index columns.entry.column.now b) (part_words first tables.now) (part_words second tables.now)) (0 ∷ 0 ∷ []) (pair_shows join (part_words first tables.now) (part_words second tables.now)) (λ b. slice_index columns.entry.column.now b) columns.entry.count most raw.new block.new result }
+    ensures { Distinguishes (pair_next (λ b. slice_index columns.entry.column.now b) (part_words first tables.now) (part_words second tables.now)) (0 ∷ 0 ∷ []) (pair_shows (joined join) (part_words first tables.now) (part_words second tables.now)) (λ b. slice_index columns.entry.column.now b) columns.entry.count most (raw_area most work.new) (block_area most work.new) result }
 {
     let pair = Pair {
         join,
-        left: first.words(tables),
-        left_rows: first.rows,
-        right: second.words(tables),
-        right_rows: second.rows,
-        columns: columns.count,
-        column: columns.column,
-        least: columns.least,
+        left: table_of(first, columns.count, tables),
+        right: table_of(second, columns.count, tables),
+        columns,
     };
-    distinguish(&pair, most, raw, block, work)
+    distinguish(&pair, most, work)
 }
 
-// One of two parts has to match.
-pub fn union(
+// One of two parts has to match, or both have to.
+pub fn connect(
+    join: Connective,
     first: Part,
     second: Part,
     columns: ByteColumns<'_>,
     most: usize,
     tables: &mut [u32],
-    raw: &mut [u32],
-    block: &mut [u32],
     work: &mut [u32],
 ) -> Option<usize>
-    requires columns { HasByteColumns columns.count columns.column.now columns.least.now }
-    requires room { Rooms most (length tables.old) (length raw.old) (length block.old) (length work.old) }
+    requires room { Rooms most (length tables.old) (length work.old) }
     requires first { PartInside columns.count first tables.old }
     requires second { PartInside columns.count second tables.old }
-    ensures { Combines union (λ b. slice_index columns.entry.column.now b) columns.entry.count first second most tables.old tables.new result }
+    ensures { Combines (joined_pattern join) (λ b. slice_index columns.entry.column.now b) columns.entry.count first second most tables.old tables.new result }
 {
-    let Some(rows) = pair(
-        Join::Or,
-        first,
-        second,
-        columns,
-        most,
-        tables,
-        raw,
-        block,
-        work,
-    ) else {
-        return None;
-    };
-    Some(quotient(raw, columns.count, rows, block, work, tables))
-}
-
-// Both parts have to match.
-pub fn intersection(
-    first: Part,
-    second: Part,
-    columns: ByteColumns<'_>,
-    most: usize,
-    tables: &mut [u32],
-    raw: &mut [u32],
-    block: &mut [u32],
-    work: &mut [u32],
-) -> Option<usize>
-    requires columns { HasByteColumns columns.count columns.column.now columns.least.now }
-    requires room { Rooms most (length tables.old) (length raw.old) (length block.old) (length work.old) }
-    requires first { PartInside columns.count first tables.old }
-    requires second { PartInside columns.count second tables.old }
-    ensures { Combines inter (λ b. slice_index columns.entry.column.now b) columns.entry.count first second most tables.old tables.new result }
-{
-    let Some(rows) = pair(
-        Join::And,
-        first,
-        second,
-        columns,
-        most,
-        tables,
-        raw,
-        block,
-        work,
-    ) else {
-        return None;
-    };
-    Some(quotient(raw, columns.count, rows, block, work, tables))
+    let rows = pair(join, first, second, columns, most, tables, work)?;
+    Some(join_blocks(columns.count, rows, most, work, tables))
 }
 
 // One part read on and the other from each place where the first matches, in blocks that aren't numbered yet.
 fn follow<'x>(
     first: Part,
     second: Part,
-    dead: usize,
     columns: ByteColumns<'x>,
     most: usize,
     tables: &'x [u32],
-    raw: &mut [u32],
-    block: &mut [u32],
     work: &mut [u32],
 ) -> Option<usize>
-    requires columns { HasByteColumns columns.count columns.column.now columns.least.now }
-    requires room { Rooms most (length tables.now) (length raw.old) (length block.old) (length work.old) }
+    requires room { Rooms most (length tables.now) (length work.old) }
     requires first { PartInside columns.count first tables.now }
     requires second { PartInside columns.count second tables.now }
     requires few { second.rows ≤ most }
-    ensures { Distinguishes (λ k b. followed (part_words first tables.now) (part_words second tables.now) dead (second.rows / 32 + 1) second.rows k (slice_index columns.entry.column.now b)) (unread (part_words first tables.now) dead (second.rows / 32 + 1)) (follow_shows (part_words second tables.now) second.rows) (λ b. slice_index columns.entry.column.now b) columns.entry.count most raw.new block.new result }
+    ensures { FollowSays (λ b. slice_index columns.entry.column.now b) columns.entry.count (part_words first tables.now) (part_words second tables.now) second.rows most work.new result }
 {
+    let back = table_of(second, columns.count, tables);
     let follow = Follow {
-        front: first.words(tables),
-        fronts: first.rows,
-        back: second.words(tables),
-        backs: second.rows,
-        dead,
-        columns: columns.count,
-        column: columns.column,
-        least: columns.least,
+        front: table_of(first, columns.count, tables),
+        back,
+        dead: dead_row(back),
+        columns,
     };
-    distinguish(&follow, most, raw, block, work)
+    distinguish(&follow, most, work)
 }
 
 // One part after the other.
@@ -183,50 +110,38 @@ pub fn sequence(
     columns: ByteColumns<'_>,
     most: usize,
     tables: &mut [u32],
-    raw: &mut [u32],
-    block: &mut [u32],
     work: &mut [u32],
 ) -> Option<usize>
-    requires columns { HasByteColumns columns.count columns.column.now columns.least.now }
-    requires room { Rooms most (length tables.old) (length raw.old) (length block.old) (length work.old) }
+    requires room { Rooms most (length tables.old) (length work.old) }
     requires first { PartInside columns.count first tables.old }
     requires second { PartInside columns.count second tables.old }
     requires few { second.rows ≤ most }
     ensures { Combines seq (λ b. slice_index columns.entry.column.now b) columns.entry.count first second most tables.old tables.new result }
 {
-    let dead = dead_row(second.words(tables), columns.count, second.rows);
-    let Some(rows) = follow(first, second, dead, columns, most, tables, raw, block, work) else {
-        return None;
-    };
-    Some(quotient(raw, columns.count, rows, block, work, tables))
+    let rows = follow(first, second, columns, most, tables, work)?;
+    Some(join_blocks(columns.count, rows, most, work, tables))
 }
 
 // One part read from the start, and again from each place where it matches, in blocks that aren't numbered yet.
 fn repeat<'x>(
     part: Part,
-    dead: usize,
     columns: ByteColumns<'x>,
     most: usize,
     tables: &'x [u32],
-    raw: &mut [u32],
-    block: &mut [u32],
     work: &mut [u32],
 ) -> Option<usize>
-    requires columns { HasByteColumns columns.count columns.column.now columns.least.now }
-    requires room { Rooms most (length tables.now) (length raw.old) (length block.old) (length work.old) }
+    requires room { Rooms most (length tables.now) (length work.old) }
     requires part { PartInside columns.count part tables.now }
     requires few { part.rows ≤ most }
-    ensures { Distinguishes (λ k b. again (part_words part tables.now) dead (part.rows / 32 + 1) part.rows k (slice_index columns.entry.column.now b)) (whole dead (part.rows / 32 + 1)) (λ k. slice_index k 0) (λ b. slice_index columns.entry.column.now b) columns.entry.count most raw.new block.new result }
+    ensures { RepeatSays (λ b. slice_index columns.entry.column.now b) columns.entry.count (part_words part tables.now) part.rows most work.new result }
 {
+    let table = table_of(part, columns.count, tables);
     let repeat = Repeat {
-        table: part.words(tables),
-        rows: part.rows,
-        dead,
-        columns: columns.count,
-        column: columns.column,
-        least: columns.least,
+        table,
+        dead: dead_row(table),
+        columns,
     };
-    distinguish(&repeat, most, raw, block, work)
+    distinguish(&repeat, most, work)
 }
 
 // One part any number of times.
@@ -235,27 +150,21 @@ pub fn repetition(
     columns: ByteColumns<'_>,
     most: usize,
     tables: &mut [u32],
-    raw: &mut [u32],
-    block: &mut [u32],
     work: &mut [u32],
 ) -> Option<usize>
-    requires columns { HasByteColumns columns.count columns.column.now columns.least.now }
-    requires room { Rooms most (length tables.old) (length raw.old) (length block.old) (length work.old) }
+    requires room { Rooms most (length tables.old) (length work.old) }
     requires part { PartInside columns.count part tables.old }
     requires few { part.rows ≤ most }
     ensures { Changes star (λ b. slice_index columns.entry.column.now b) columns.entry.count part most tables.old tables.new result }
 {
-    let dead = dead_row(part.words(tables), columns.count, part.rows);
-    let Some(rows) = repeat(part, dead, columns, most, tables, raw, block, work) else {
-        return None;
-    };
-    Some(quotient(raw, columns.count, rows, block, work, tables))
+    let rows = repeat(part, columns, most, tables, work)?;
+    Some(join_blocks(columns.count, rows, most, work, tables))
 }
 
 fn turn(output: u32) -> u32
     ensures { result ≡ (if nat_eq output 0 then 1 else 0) }
 {
-    if output == 0 { 1 } else { 0 }
+    u32::from(output == 0)
 }
 
 // Turns the outputs of the first rows.

@@ -3,15 +3,11 @@ ghost use Rattle.parts.specs.Told.{PartsTell};
 ghost use Rattle.parts.specs.Wrong.{OnceWrong};
 
 // Each kind of part tells finitely many classes apart; so each sound pattern leaves finitely many things, and fits into some number.
-pub fn parts_tell() -> u8
+pub fn parts_tell()
     ensures { PartsTell }
-{
-    0
-}
+{}
 
 // What is easily got wrong about not, many, ranges, 'and' and words that leave the same, as facts about the definitions.
-pub fn once_wrong_stands() -> u8
+pub fn once_wrong_stands()
     ensures { OnceWrong }
-{
-    0
-}
+{}
