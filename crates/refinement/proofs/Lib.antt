@@ -1,3 +1,4 @@
+pub mod RowCells
 pub mod Rounds
 pub mod Quotients
 pub mod DeadRows

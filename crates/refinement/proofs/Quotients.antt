@@ -199,26 +199,26 @@ module _ (c k n : ℕ) (t u : List ℕ) (B N : ℕ → ℕ) (S : Inside c k t) (
   }
 
 -- a row written, cell by cell
-pub put_start : (t u : List ℕ) (N : ℕ → ℕ) (i : ℕ) → 257 * N i + 257 ≤ length u → Put t (set u (257 * N i) (shown t i)) (set u (257 * N i) (shown t i)) N i 0
-put_start t u N i h = record {
-  shows = get_or-set_same u (257 * N i) (shown t i) 0 (omega arith);
+pub put_start : (t u : List ℕ) (N : ℕ → ℕ) (i : ℕ) {v : ℕ} → v ≡ shown t i → 257 * N i + 257 ≤ length u → Put t (set u (257 * N i) v) (set u (257 * N i) v) N i 0
+put_start t u N i {v} e h = record {
+  shows = get_or-set_same u (257 * N i) v 0 (omega arith) ∙ e;
   on = λ a l. absurd (omega arith);
   before = λ p l. refl;
   behind = λ p l. refl;
 }
 
-pub put_more : (t u x : List ℕ) (N : ℕ → ℕ) (i b : ℕ) → b < 256 → 257 * N i + 257 ≤ length x → Put t u x N i b → Put t u (set x (257 * N i + (1 + b)) (N (cell t i b))) N i (b + 1)
-put_more t u x N i b m h P = record {
+pub put_more : (t u x : List ℕ) (N : ℕ → ℕ) (i b : ℕ) {y : ℕ} → y ≡ cell t i b → b < 256 → 257 * N i + 257 ≤ length x → Put t u x N i b → Put t u (set x (257 * N i + (1 + b)) (N y)) N i (b + 1)
+put_more t u x N i b {y} e m h P = record {
   shows = other (257 * N i) (omega arith) ∙ P.shows;
-  on = below_more (λ a. cell (set x (257 * N i + (1 + b)) (N (cell t i b))) (N i) a ≡ N (cell t i a)) b
+  on = below_more (λ a. cell (set x (257 * N i + (1 + b)) (N y)) (N i) a ≡ N (cell t i a)) b
       (λ a l. other (257 * N i + (1 + a)) (omega arith) ∙ P.on a l)
-      (get_or-set_same x (257 * N i + (1 + b)) (N (cell t i b)) 0 (omega arith));
+      (get_or-set_same x (257 * N i + (1 + b)) (N y) 0 (omega arith) ∙ ap N e);
   before = λ p l. other p (omega arith) ∙ P.before p l;
   behind = λ p l. other p (omega arith) ∙ P.behind p l;
 }
   where
-    other : (p : ℕ) → (p ≡ 257 * N i + (1 + b) → ⊥) → get_or (set x (257 * N i + (1 + b)) (N (cell t i b))) p 0 ≡ get_or x p 0
-    other p ne = get_or-set_other x (257 * N i + (1 + b)) p (N (cell t i b)) 0 ne
+    other : (p : ℕ) → (p ≡ 257 * N i + (1 + b) → ⊥) → get_or (set x (257 * N i + (1 + b)) (N y)) p 0 ≡ get_or x p 0
+    other p ne = get_or-set_other x (257 * N i + (1 + b)) p (N y) 0 ne
 
 pub put_end : (t u x : List ℕ) (N : ℕ → ℕ) (i v b c : ℕ) → b ≡ c → Put t (set u (257 * N i) v) x N i b → Put t u x N i c
 put_end t u x N i v b c e P = record {

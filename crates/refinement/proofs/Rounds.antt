@@ -1,15 +1,18 @@
 -- Rounds of a refinement: each tells more rows apart by words, and one that changes nothing is the last. Assumes nothing.
-use Rattle.std.proofs.Common.{◌≡◌, ℕ, suc, ◌+◌, ◌*◌, ◌<◌, ◌≤◌, ◌⊎◌, List, [], ◌∷◌, length, get_or, set, replicate, sum, sym, refl, ap, ◌∙◌, subst, inl, inr, ⊎_elim, arith, get_or-set_other, get_or-set_same}
-use Rattle.std.specs.List.{AllByRecursion as All}
+use Rattle.std.proofs.Common.{◌≡◌, ℕ, suc, ◌+◌, ◌*◌, ◌<◌, ◌≤◌, ◌≢◌, ◌⊎◌, Bool, true, false, MatchBool, Some, None, Option, MatchOption, List, [], ◌∷◌, length, get_or, set, replicate, sum, sym, refl, ap, ◌∙◌, subst, inl, inr, ⊎_elim, arith, get_or-set_other, get_or-set_same}
+use Rattle.std.specs.List.{AllByRecursion as All, AllWithin, HoldsAt, zip}
+use Rattle.std.specs.Option.{unwrap_or}
+use Rattle.std.proofs.lemmas.Slice.Zip.{length-zip, get_or-zip}
 use Rattle.std.proofs.lemmas.List.{get_or-replicate}
 use Rattle.std.proofs.lemmas.List.Sums.{sum_by-cons}
 use Rattle.std.proofs.ByRecursion.{sum_by_le}
-use Rattle.std.proofs.lemmas.Bool.{cases_eq, cases_order}
+use Rattle.std.proofs.lemmas.Bool.{cases_eq, cases_lt, cases_order}
 use Rattle.machines.specs.Words.{Word, Bytes}
 use Rattle.machines.specs.Machines.{run}
 use Rattle.machines.specs.Columns.{Columns, cell, shown, leads}
 use Rattle.machines.specs.Minimal.{Told}
 use Rattle.machines.specs.Inside.{Inside}
+use Rattle.refinement.proofs.RowCells.{row_cells, length-row_cells, at_cell}
 use Rattle.refinement.specs.Refining.{at, Same, Other, Found, Blocks, Refined}
 
 pub blocks_start : (c k : ℕ) (t s : List ℕ) → s ≡ replicate k 0 → Blocks c k t (at s)
@@ -21,18 +24,54 @@ blocks_start c k t s e = record {
     zero_at : (i : ℕ) → i < k → at s i ≡ 0
     zero_at i l = ap (λ z. get_or z i 0) e ∙ get_or-replicate k i 0 0 l
 
--- the search for an alike row begins at the block's least row, and never passes the row itself
-pub other_under : (c k : ℕ) (t : List ℕ) (B : ℕ → ℕ) (i r : ℕ) → ((j : ℕ) → j < k → B j ≤ j) → i < k → r < B i → Other c t B r i
-other_under c k t B i r low l h = inl (λ e. omega (arith, low i l, low r (omega (arith, low i l))))
+-- the search for an alike row begins at the block's least row, and if it finds none below the row, the row is alike to itself
+pub found_alike : {c k f : ℕ} {t : List ℕ} {B : ℕ → ℕ} {i : ℕ} (d : Option ℕ) → ((r : ℕ) → r < k → B r ≤ r) → i < k → f ≡ B i
+    → MatchOption d ((r : ℕ) → f ≤ r → r < i → Other c t B r i) (λ j. (f ≤ j) × (j < i) × Same c t B j i × ((r : ℕ) → f ≤ r → r < j → Other c t B r i))
+    → Found c t B i (unwrap_or d i)
+found_alike {c} {k} {f} {t} {B} {i} d low l e search = go d search
+  where
+    -- a row below i's block is in another one
+    least : (j : ℕ) → j ≤ i → ((r : ℕ) → f ≤ r → r < j → Other c t B r i) → (r : ℕ) → r < j → Other c t B r i
+    least j m others r h = ⊎_elim (λ (u : r < f). inl (λ z. omega (arith, low r (omega arith)))) (λ (u : f ≤ r). others r u h) (cases_lt r f)
 
-other_self : (c : ℕ) (t : List ℕ) (B : ℕ → ℕ) (i : ℕ) → Other c t B i i → ⊥
-other_self c t B i (inl h) = h refl
-other_self c t B i (inr (inl h)) = h refl
-other_self c t B i (inr (inr (a, l, h))) = h refl
+    go : (d : Option ℕ) → MatchOption d ((r : ℕ) → f ≤ r → r < i → Other c t B r i) (λ j. (f ≤ j) × (j < i) × Same c t B j i × ((r : ℕ) → f ≤ r → r < j → Other c t B r i))
+        → Found c t B i (unwrap_or d i)
+    go None others = record {
+      low = omega arith;
+      same = record { old = refl; shows = refl; on = λ a h. refl };
+      least = least i (omega arith) others;
+    }
+    go (Some j) (above, below, same, others) = record { low = omega arith; same = same; least = least j (omega arith) others }
 
-pub other_below : (c : ℕ) (t : List ℕ) (B : ℕ → ℕ) (i j : ℕ) → j ≤ i → Other c t B j i → j < i
-other_below c t B i j l h =
-    ⊎_elim (λ (e : j ≡ i). absurd (other_self c t B i (subst (λ z. Other c t B z i) e h))) (λ (n : j ≡ i → ⊥). omega arith) (cases_eq j i)
+-- what was found in two rows of one block that show the same: their cells lead to the same blocks, or two don't
+abbrev pub pairs : ℕ → List ℕ → ℕ → ℕ → List (ℕ × ℕ)
+pairs c t i j = zip (row_cells c t i) (row_cells c t j)
+
+length-pairs : {c k : ℕ} {t : List ℕ} {i j : ℕ} → Inside c k t → i < k → j < k → length (pairs c t i j) ≡ c
+length-pairs {c} {k} {t} {i} {j} S l m = omega (arith, length-zip (row_cells c t i) (row_cells c t j), length-row_cells S l, length-row_cells S m)
+
+pub at_pair : {c k : ℕ} {t : List ℕ} {i j : ℕ} → Inside c k t → i < k → j < k → (a : ℕ) → a < c → (d : ℕ × ℕ) → get_or (pairs c t i j) a d ≡ (cell t i a, cell t j a)
+at_pair {c} {k} {t} {i} {j} S l m a h d =
+    get_or-zip (row_cells c t i) (row_cells c t j) a d (omega (arith, length-row_cells S l)) (omega (arith, length-row_cells S m))
+    ∙ ap (λ z. (z, get_or (row_cells c t j) a d.1)) (at_cell S l a d.0 h) ∙ ap (λ z. (cell t i a, z)) (at_cell S m a d.1 h)
+
+pub pair_inside : {c k : ℕ} {t : List ℕ} {i j : ℕ} → Inside c k t → i < k → j < k → (a x y : ℕ) → a < length (pairs c t i j) → (x, y) ≡ get_or (pairs c t i j) a (x, y) → (x < k) × (y < k)
+pair_inside {c} {k} {t} {i} {j} S l m a x y h e =
+    let n : a < c = omega (arith, length-pairs S l m) in
+    let p : (x, y) ≡ (cell t i a, cell t j a) = e ∙ at_pair S l m a n (x, y) in
+    (omega (arith, S.cells i l a n, ap (λ (z : ℕ × ℕ). z.0) p), omega (arith, S.cells j m a n, ap (λ (z : ℕ × ℕ). z.1) p))
+
+pub alike_says : {c k : ℕ} {t : List ℕ} {i j : ℕ} (B : ℕ → ℕ) (b : Bool) → Inside c k t → i < k → j < k → B i ≡ B j → shown t i ≡ shown t j
+    → MatchBool b (AllWithin (λ p. B p.0 ≡ B p.1) (pairs c t i j) 0 (length (pairs c t i j))) ((a : ℕ) × (a < length (pairs c t i j)) × HoldsAt (λ p. B p.0 ≢ B p.1) (pairs c t i j) a)
+    → MatchBool b (Same c t B i j) (Other c t B i j)
+alike_says {c} {k} {t} {i} {j} B true S l m old shows all = record {
+  old = old;
+  shows = shows;
+  on = λ a h. subst (λ (p : ℕ × ℕ). B p.0 ≡ B p.1) (at_pair S l m a h (0, 0)) (all a (0, 0) (omega arith) (omega (arith, length-pairs S l m)));
+}
+alike_says {c} {k} {t} {i} {j} B false S l m old shows (a, h, other) =
+    let n : a < c = omega (arith, length-pairs S l m) in
+    inr (inr (a, n, subst (λ (p : ℕ × ℕ). B p.0 ≢ B p.1) (at_pair S l m a n (0, 0)) (other (0, 0))))
 
 -- the rows below k have their new blocks
 abbrev pub Finer : ℕ → ℕ → List ℕ → (ℕ → ℕ) → (ℕ → ℕ) → Type 0

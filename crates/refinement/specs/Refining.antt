@@ -2,11 +2,10 @@
 --   at s i                  what stands at place i of a list, 0 past its end
 --   Same, Other c t B i j   what a round looks at: rows i and j are in one block, show the same and lead to the same
 --                           blocks; or one of these fails
---   Alike c t B i j r       which of the two, as a test says it
 --   Found c t B i j         j is the least row that is the same as row i
 --   Blocks c k t B          k rows in blocks; rows of different blocks are told apart by a word
 --   Refined c k t B         two rows are in one block exactly if the outputs from them agree after every word
-use Rattle.std.specs.Prelude.{◌≡◌, ℕ, ◌<◌, ◌≤◌, Bool, true, false, ◌⊎◌, List, ◌≢◌, slice_index}
+use Rattle.std.specs.Prelude.{◌≡◌, ℕ, ◌<◌, ◌≤◌, ◌⊎◌, List, ◌≢◌, slice_index}
 use Rattle.machines.specs.Columns.{Columns, cell, shown, leads}
 use Rattle.machines.specs.Minimal.{Like, Told}
 
@@ -20,10 +19,6 @@ pub record Same (c : ℕ) (t : List ℕ) (B : ℕ → ℕ) (i j : ℕ) : Type 0 
 
 abbrev pub Other : ℕ → List ℕ → (ℕ → ℕ) → ℕ → ℕ → Type 0
 Other c t B i j = (B i ≢ B j) ⊎ ((shown t i ≢ shown t j) ⊎ ((a : ℕ) × (a < c) × (B (cell t i a) ≢ B (cell t j a))))
-
-abbrev pub Alike : ℕ → List ℕ → (ℕ → ℕ) → ℕ → ℕ → Bool → Type 0
-Alike c t B i j true = Same c t B i j
-Alike c t B i j false = Other c t B i j
 
 pub record Found (c : ℕ) (t : List ℕ) (B : ℕ → ℕ) (i j : ℕ) : Type 0 where
   pub low : j ≤ i

@@ -1,8 +1,9 @@
 // The least table of what a table gives: one row for each block of rows that do alike.
 ghost use Rattle.std.specs.Prelude.{◌≡◌, ℕ, ◌+◌, ◌*◌, ◌^◌, ◌<◌, ◌≤◌, length};
-ghost use Rattle.machines.specs.Inside.{Inside};
 ghost use Rattle.refinement.specs.Refining.{at, Refined};
 ghost use Rattle.refinement.specs.Joining.{Firsts, Numbering, Put, Joined};
+
+use machines::raw::RawTable;
 
 // Numbers the blocks by their least rows.
 fn number(rows: usize, block: &[u32], names: &mut [u32]) -> usize
@@ -26,41 +27,33 @@ fn number(rows: usize, block: &[u32], names: &mut [u32]) -> usize
 }
 
 // Writes row i of one table into another, by the rows' names.
-fn put_row(raw: &[u32], columns: usize, rows: usize, i: usize, names: &[u32], table: &mut [u32])
-    requires raw { Inside columns rows raw.now }
-    requires i { i < rows }
-    requires names { rows ≤ length names.now }
+fn put_row(raw: RawTable<'_>, i: usize, names: &[u32], table: &mut [u32])
+    requires i { i < raw.rows }
+    requires names { raw.rows ≤ length names.now }
     requires room { 257 * at names.now i + 257 ≤ length table.old }
-    ensures { Put raw.now table.old table.new (at names.now) i columns }
+    ensures { Put raw.entry.words.now table.old table.new (at names.now) i raw.entry.columns }
 {
     let to = 257 * names[i] as usize;
-    table[to] = raw[257 * i];
-    for a in 0..columns {
-        table[to + (1 + a)] = names[raw[257 * i + (1 + a)] as usize];
+    table[to] = raw.shown(i);
+    for a in 0..raw.columns() {
+        table[to + (1 + a)] = names[raw.cell(i, a)];
     }
 }
 
 // Writes the table of the blocks, a row for each, and says how many there are.
-pub fn quotient(
-    raw: &[u32],
-    columns: usize,
-    rows: usize,
-    block: &[u32],
-    names: &mut [u32],
-    table: &mut [u32],
-) -> usize
-    requires raw { Inside columns rows raw.now }
-    requires few { rows < 2 ^ 32 }
-    requires block { rows ≤ length block.now }
-    requires refined { Refined columns rows raw.now (at block.now) }
-    requires names { rows ≤ length names.old }
-    requires table { 257 * rows ≤ length table.old }
-    ensures { Joined columns rows result raw.now table.new }
+pub fn quotient(raw: RawTable<'_>, block: &[u32], names: &mut [u32], table: &mut [u32]) -> usize
+    requires few { raw.rows < 2 ^ 32 }
+    requires block { raw.rows ≤ length block.now }
+    requires refined { Refined raw.columns raw.rows raw.words.now (at block.now) }
+    requires names { raw.rows ≤ length names.old }
+    requires table { 257 * raw.rows ≤ length table.old }
+    ensures { Joined raw.entry.columns raw.entry.rows result raw.entry.words.now table.new }
 {
+    let rows = raw.rows();
     let count = number(rows, block, names);
     for i in 0..rows {
         if block[i] as usize == i {
-            put_row(raw, columns, rows, i, names, table);
+            put_row(raw, i, names, table);
         }
     }
     count

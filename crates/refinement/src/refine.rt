@@ -1,68 +1,50 @@
 // Partition refinement: the rows of a table are parted into blocks of rows that do alike.
-ghost use Rattle.std.specs.Prelude.{◌≡◌, ℕ, ◌^◌, ◌<◌, ◌≤◌, length, Decides};
-ghost use Rattle.machines.specs.Inside.{Inside};
-ghost use Rattle.refinement.specs.Refining.{at, Alike, Found, Refined};
+ghost use Rattle.std.specs.Prelude.{◌≡◌, ℕ, ◌^◌, ◌<◌, ◌≤◌, length, MatchBool};
+ghost use Rattle.refinement.specs.Refining.{at, Same, Other, Found, Refined};
+
+use machines::raw::RawTable;
 
 // Whether two rows are in one block, show the same and lead to the same blocks.
-fn alike(table: &[u32], columns: usize, rows: usize, block: &[u32], i: usize, j: usize) -> bool
-    requires table { Inside columns rows table.now }
-    requires block { length block.now ≡ rows }
-    requires i { i < rows }
-    requires j { j < rows }
-    ensures { Alike columns table.now (at block.now) i j result }
+fn alike(table: RawTable<'_>, block: &[u32], i: usize, j: usize) -> bool
+    requires block { length block.now ≡ table.rows }
+    requires i { i < table.rows }
+    requires j { j < table.rows }
+    ensures { MatchBool result (Same table.entry.columns table.entry.words.now (at block.now) i j) (Other table.entry.columns table.entry.words.now (at block.now) i j) }
 {
-    if block[i] != block[j] {
-        return false;
-    }
-    if table[257 * i] != table[257 * j] {
-        return false;
-    }
-    for a in 0..columns {
-        let one = table[257 * i + (1 + a)] as usize;
-        let other = table[257 * j + (1 + a)] as usize;
-        if block[one] != block[other] {
-            return false;
-        }
-    }
-    true
+    block[i] == block[j]
+        && table.shown(i) == table.shown(j)
+        && table
+            .cells(i)
+            .iter()
+            .zip(table.cells(j))
+            .all(|(one, other)| block[*one as usize] == block[*other as usize])
 }
 
 // The least row that is alike to row i. None is below the least row of i's block, so the search begins there.
-fn least_alike(table: &[u32], columns: usize, rows: usize, block: &[u32], i: usize) -> usize
-    requires table { Inside columns rows table.now }
-    requires block { length block.now ≡ rows }
-    requires i { i < rows }
-    requires low { (r : ℕ) → r < rows → at block.now r ≤ r }
-    ensures { Found columns table.now (at block.now) i result }
+fn least_alike(table: RawTable<'_>, block: &[u32], i: usize) -> usize
+    requires block { length block.now ≡ table.rows }
+    requires i { i < table.rows }
+    requires low { (r : ℕ) → r < table.rows → at block.now r ≤ r }
+    ensures { Found table.entry.columns table.entry.words.now (at block.now) i result }
 {
-    let mut j = block[i] as usize;
-    while !alike(table, columns, rows, block, j, i) {
-        j += 1;
-    }
-    j
-}
-
-// Whether a round changed nothing.
-fn same(block: &[u32], fresh: &[u32]) -> bool
-    ensures { Decides result (block.now ≡ fresh.now) }
-{
-    block == fresh
+    let first = block[i] as usize;
+    (first..i).find(|j| alike(table, block, *j, i)).unwrap_or(i)
 }
 
 // Parts the rows into blocks, each called by its least row: two rows are in one block exactly if they do alike.
-pub fn refine(table: &[u32], columns: usize, rows: usize, block: &mut [u32], fresh: &mut [u32])
-    requires table { Inside columns rows table.now }
-    requires few { rows < 2 ^ 32 }
-    requires block { length block.old ≡ rows }
-    requires fresh { length fresh.old ≡ rows }
-    ensures { Refined columns rows table.now (at block.new) }
+pub fn refine(table: RawTable<'_>, block: &mut [u32], fresh: &mut [u32])
+    requires few { table.rows < 2 ^ 32 }
+    requires block { length block.old ≡ table.rows }
+    requires fresh { length fresh.old ≡ table.rows }
+    ensures { Refined table.entry.columns table.entry.rows table.entry.words.now (at block.new) }
 {
     block.fill(0);
+    // A rule of the project: a fixpoint is a labelled loop that is left when nothing changes.
     'rounds: loop {
-        for i in 0..rows {
-            fresh[i] = least_alike(table, columns, rows, block, i) as u32;
+        for (i, least) in fresh.iter_mut().enumerate() {
+            *least = least_alike(table, block, i) as u32;
         }
-        if same(block, fresh) {
+        if &*block == &*fresh {
             break 'rounds;
         }
         block.copy_from_slice(fresh);

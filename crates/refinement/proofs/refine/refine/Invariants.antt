@@ -4,11 +4,11 @@ use Rattle.refinement.proofs.Rounds.{Finer}
 use Rattle.refinement.proofs.refine.refine.Given as goal
 
 abbrev pub invariant-rounds : goal.invariant-rounds
-invariant-rounds l = Blocks l.columns l.rows l.table (at l.block)
+invariant-rounds l = Blocks l.table.columns l.table.rows l.table.words.now (at l.block)
 
 -- the least rows only grow
 abbrev pub decreases-rounds : goal.decreases-rounds
-decreases-rounds l = l.rows * l.rows - sum l.block
+decreases-rounds l = l.table.rows * l.table.rows - sum l.block
 
 abbrev pub invariant-loop-i : goal.invariant-loop-i
-invariant-loop-i l = Finer l.columns l.i l.table (at l.block) (at l.fresh)
+invariant-loop-i l = Finer l.table.columns l.i l.table.words.now (at l.block) (at l.fresh)
