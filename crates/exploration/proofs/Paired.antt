@@ -1,13 +1,13 @@
 -- Pairs of rows lead where the two tables lead, and bytes of one column lead to one pair. Assumes nothing.
-use Rattle.std.proofs.Common.{◌≡◌, ℕ, ◌<◌, ◌↔◌, List, [], ◌∷◌, length, get_or, set, sym, refl, ap, ◌∙◌, arith}
+use Rattle.std.proofs.Common.{◌≡◌, ℕ, ◌<◌, ◌↔◌, List, [], ◌∷◌, length, get_or, set, take, drop, ◌+◌, ◌*◌, sym, refl, ap, ◌∙◌, subst, arith}
+use Rattle.std.proofs.lemmas.List.{places}
 use Rattle.machines.specs.Words.{Word, Bytes}
 use Rattle.machines.specs.Machines.{run}
 use Rattle.machines.specs.Columns.{Columns, cell, shown, leads}
 use Rattle.machines.specs.Inside.{Inside}
 use Rattle.machines.specs.Minimal.{Gives}
 use Rattle.machines.specs.Systems.{reach, Lawful}
-use Rattle.exploration.specs.Pairs.{join, pair_next, pair_shows, PairKey}
-use Rattle.exploration.specs.declared.pairs.Join.{Join}
+use Rattle.exploration.specs.Pairs.{pair_next, pair_shows, PairKey}
 use Rattle.exploration.specs.Exploring.{Complete}
 use Rattle.exploration.proofs.Explored.{complete_gives}
 
@@ -18,12 +18,24 @@ set_two (a ∷ []) x y h = absurd (omega arith)
 set_two (a ∷ b ∷ []) x y h = refl
 set_two (a ∷ b ∷ c ∷ xs) x y h = absurd (omega arith)
 
+cell_of : (t : List ℕ) (i c j : ℕ) → j < c → get_or (take c (drop (257 * i + 1) t)) j 0 ≡ cell t i j
+cell_of t i c j h = grind (arith, places)
+
 -- a column is stepped as its least byte
-pub step_least : (l r : List ℕ) {c : ℕ} {column least : ℕ → ℕ} → Columns c column least → (k : List ℕ) (j : ℕ) → j < c → cell l (get_or k 0 0) j ∷ cell r (get_or k 1 0) j ∷ [] ≡ pair_next column l r k (least j)
+step_least : (l r : List ℕ) {c : ℕ} {column least : ℕ → ℕ} → Columns c column least → (k : List ℕ) (j : ℕ) → j < c → cell l (get_or k 0 0) j ∷ cell r (get_or k 1 0) j ∷ [] ≡ pair_next column l r k (least j)
 step_least l r columns k j h = ap (λ z. cell l (get_or k 0 0) z ∷ cell r (get_or k 1 0) z ∷ []) (sym (columns.back j h))
 
-pub pair_lawful : {c m n : ℕ} {column least : ℕ → ℕ} {l r : List ℕ} → Columns c column least → Inside c m l → Inside c n r → Lawful (0 ∷ 0 ∷ []) (pair_next column l r) (PairKey m n) 2 column least
-pair_lawful {column = column} {l = l} {r = r} columns a b = record {
+-- through the cells of both rows
+pub step_cells : (l r : List ℕ) {c : ℕ} {column least : ℕ → ℕ} → Columns c column least → (k out xs ys : List ℕ) (m n j : ℕ) → xs ≡ take m (drop (257 * get_or k 0 0 + 1) l) → ys ≡ take n (drop (257 * get_or k 1 0 + 1) r)
+    → m ≡ c → n ≡ c → j < c → length out ≡ 2 → set (set out 0 (get_or xs j 0)) 1 (get_or ys j 0) ≡ pair_next column l r k (least j)
+step_cells l r columns k out xs ys m n j e d p q h long =
+    set_two out (get_or xs j 0) (get_or ys j 0) long
+    ∙ ap (λ z. z ∷ get_or ys j 0 ∷ []) (ap (λ z. get_or z j 0) e ∙ cell_of l (get_or k 0 0) m j (omega arith))
+    ∙ ap (λ z. cell l (get_or k 0 0) j ∷ z ∷ []) (ap (λ z. get_or z j 0) d ∙ cell_of r (get_or k 1 0) n j (omega arith))
+    ∙ step_least l r columns k j h
+
+pub pair_lawful : {c d e m n : ℕ} {column least : ℕ → ℕ} {l r : List ℕ} → Columns c column least → Inside d m l → d ≡ c → Inside e n r → e ≡ c → Lawful (0 ∷ 0 ∷ []) (pair_next column l r) (PairKey m n) 2 column least
+pair_lawful {m = m} {n = n} {column = column} {l = l} {r = r} columns left p right q = let a = subst (λ z. Inside z m l) p left in let b = subst (λ z. Inside z n r) q right in record {
   starts = record { two = refl; left = a.some; right = b.some };
   stays = λ k x g h. record {
     two = refl;
@@ -40,16 +52,9 @@ module _ (column : ℕ → ℕ) (l r : List ℕ) where
   pair_reach (b ∷ w) i j = pair_reach w (leads column l i b) (leads column r j b)
 
   -- what two tables give, their pairs show together, whatever is made of the two outputs
-  abbrev pub both_shows : (ℕ → ℕ → ℕ) → List ℕ → ℕ
-  both_shows h k = h (shown l (get_or k 0 0)) (shown r (get_or k 1 0))
-
-  both_gives : (h : ℕ → ℕ → ℕ) (f g : Word → ℕ) → Gives f (leads column l) (shown l) → Gives g (leads column r) (shown r)
-      → (w : Word) → Bytes w → both_shows h (reach (pair_next column l r) (0 ∷ 0 ∷ []) w) ≡ h (f w) (g w)
-  both_gives h f g p q w o = ap (both_shows h) (pair_reach w 0 0) ∙ ap (λ z. h z (shown r (run (leads column r) 0 w))) (p w o) ∙ ap (h (f w)) (q w o)
-
-  pub pair_gives : (j : Join) (f g : Word → ℕ) → Gives f (leads column l) (shown l) → Gives g (leads column r) (shown r)
-      → (w : Word) → Bytes w → pair_shows j l r (reach (pair_next column l r) (0 ∷ 0 ∷ []) w) ≡ join j (f w) (g w)
-  pair_gives j = both_gives (join j)
+  pub pair_gives : (h : ℕ → ℕ → ℕ) (f g : Word → ℕ) → Gives f (leads column l) (shown l) → Gives g (leads column r) (shown r)
+      → (w : Word) → Bytes w → pair_shows h l r (reach (pair_next column l r) (0 ∷ 0 ∷ []) w) ≡ h (f w) (g w)
+  pair_gives h f g p q w o = ap (pair_shows h l r) (pair_reach w 0 0) ∙ ap (λ z. h z (shown r (run (leads column r) 0 w))) (p w o) ∙ ap (h (f w)) (q w o)
 
   -- two words lead to one pair exactly if they lead to one row in each table
   pub pair_same : (u v : Word)
@@ -61,10 +66,6 @@ module _ (column : ℕ → ℕ) (l r : List ℕ) where
   )
 
   -- and the table of the pairs gives what the two tables give together
-  pub both_complete : (h : ℕ → ℕ → ℕ) (f g : Word → ℕ) {count n most k : ℕ} {ks t : List ℕ} → Gives f (leads column l) (shown l) → Gives g (leads column r) (shown r)
-      → Complete (pair_next column l r) (0 ∷ 0 ∷ []) (both_shows h) column count n most k ks t → Gives (λ w. h (f w) (g w)) (leads column t) (shown t)
-  both_complete h f g p q c = complete_gives c (λ w. h (f w) (g w)) (both_gives h f g p q)
-
-  pub pair_complete : (j : Join) (f g : Word → ℕ) {count n most k : ℕ} {ks t : List ℕ} → Gives f (leads column l) (shown l) → Gives g (leads column r) (shown r)
-      → Complete (pair_next column l r) (0 ∷ 0 ∷ []) (pair_shows j l r) column count n most k ks t → Gives (λ w. join j (f w) (g w)) (leads column t) (shown t)
-  pair_complete j f g p q c = both_complete (join j) f g p q c
+  pub pair_complete : (h : ℕ → ℕ → ℕ) (f g : Word → ℕ) {count n most k : ℕ} {ks t : List ℕ} → Gives f (leads column l) (shown l) → Gives g (leads column r) (shown r)
+      → Complete (pair_next column l r) (0 ∷ 0 ∷ []) (pair_shows h l r) column count n most k ks t → Gives (λ w. h (f w) (g w)) (leads column t) (shown t)
+  pair_complete h f g p q c = complete_gives c (λ w. h (f w) (g w)) (pair_gives h f g p q)

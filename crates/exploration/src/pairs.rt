@@ -1,56 +1,72 @@
 // The system of pairs of rows: two tables over the same columns, read side by side.
-ghost use Rattle.std.specs.Prelude.{ℕ, List, [], ◌∷◌, slice_index};
-ghost use Rattle.machines.specs.Columns.{Columns};
-ghost use Rattle.machines.specs.Inside.{Inside};
-ghost use Rattle.exploration.specs.Pairs.{pair_next, pair_shows, PairKey};
+ghost use Rattle.std.specs.Prelude.{◌≡◌, ℕ, List, [], ◌∷◌, slice_index};
+ghost use Rattle.exploration.specs.Pairs.{joined, pair_next, pair_shows, PairKey};
 
 use crate::system::System;
+use machines::columns::ByteColumns;
+use machines::raw::RawTable;
 
-// How two outputs join: one of them is enough, or both are needed.
+// How two outputs join.
+pub trait Join {
+    ghost joins: { Self → ℕ → ℕ → ℕ };
+
+    // What two outputs give together.
+    fn join(&self, one: u32, other: u32) -> u32
+        ensures { result ≡ joins self.now one other };
+}
+
+// One of two outputs is enough, or both are needed.
 #[derive(Clone, Copy)]
-pub enum Join {
+pub enum Connective {
     Or,
     And,
 }
 
-// The columns are those of both tables: `column` has the column of each byte, and `least` the least byte of each column.
-#[derive(Drop)]
-pub struct Pair<'a> {
-    pub join: Join,
-    pub left: &'a [u32],
-    pub left_rows: usize,
-    pub right: &'a [u32],
-    pub right_rows: usize,
-    pub columns: usize,
-    pub column: &'a [u32],
-    pub least: &'a [u32],
+impl Join for Connective {
+    ghost joins = { joined };
+
+    fn join(&self, one: u32, other: u32) -> u32 {
+        match self {
+            Connective::Or => if one == 0 { other } else { one },
+            Connective::And => if one == 0 { 0 } else { other },
+        }
+    }
 }
 
-impl<'a> System for Pair<'a> {
+// Two tables over the columns.
+#[derive(Drop)]
+pub struct Pair<'a, J> {
+    pub join: J,
+    pub left: RawTable<'a>,
+    pub right: RawTable<'a>,
+    pub columns: ByteColumns<'a>,
+}
+
+impl<'a, J: Join + Drop> System for Pair<'a, J> {
     ghost width = { λ _. 2 };
 
-    ghost count = { λ s. s.columns };
+    ghost count = { λ s. s.columns.count };
 
-    ghost column = { λ s b. slice_index s.column.now b };
+    ghost column = { λ s b. slice_index s.columns.column.now b };
 
-    ghost least = { λ s j. slice_index s.least.now j };
+    ghost least = { λ s j. slice_index s.columns.least.now j };
 
     ghost begin = { λ _. 0 ∷ 0 ∷ [] };
 
-    ghost next = { λ s. pair_next (λ b. slice_index s.column.now b) s.left.now s.right.now };
+    ghost next = { λ s. pair_next (λ b. slice_index s.columns.column.now b) s.left.words.now s.right.words.now };
 
-    ghost shows = { λ s. pair_shows s.join s.left.now s.right.now };
+    ghost shows = { λ s. pair_shows (J.joins s.join) s.left.words.now s.right.words.now };
 
-    ghost ready = { λ s. Columns s.columns (λ b. slice_index s.column.now b) (λ j. slice_index s.least.now j) × Inside s.columns s.left_rows s.left.now × Inside s.columns s.right_rows s.right.now };
+    ghost ready = { λ s. (s.left.columns ≡ s.columns.count) × (s.right.columns ≡ s.columns.count) };
 
-    ghost good = { λ s k. PairKey s.left_rows s.right_rows k };
+    ghost good = { λ s k. PairKey s.left.rows s.right.rows k };
 
     fn size(&self) -> usize {
         2
     }
 
     fn columns(&self) -> usize {
-        self.columns
+        self.columns.count
     }
 
     fn start(&self, out: &mut [u32]) {
@@ -59,16 +75,13 @@ impl<'a> System for Pair<'a> {
     }
 
     fn step(&self, key: &[u32], at: usize, out: &mut [u32]) {
-        out[0] = self.left[257 * key[0] as usize + (1 + at)];
-        out[1] = self.right[257 * key[1] as usize + (1 + at)];
+        out[0] = self.left.cells(key[0] as usize)[at];
+        out[1] = self.right.cells(key[1] as usize)[at];
     }
 
     fn show(&self, key: &[u32]) -> u32 {
-        let one = self.left[257 * key[0] as usize];
-        let other = self.right[257 * key[1] as usize];
-        match self.join {
-            Join::Or => if one == 0 { other } else { one },
-            Join::And => if one == 0 { 0 } else { other },
-        }
+        let one = self.left.shown(key[0] as usize);
+        let other = self.right.shown(key[1] as usize);
+        self.join.join(one, other)
     }
 }

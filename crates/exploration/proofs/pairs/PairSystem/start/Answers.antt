@@ -3,4 +3,4 @@ use Rattle.exploration.proofs.Paired.{set_two}
 use Rattle.exploration.proofs.pairs.PairSystem.start.Goals as goal
 
 pub returns : goal.returns
-returns c = set_two _ _ _ (search rules)
+returns g c = set_two _ _ _ (search rules)
