@@ -2,5 +2,7 @@
 
 #![tactic(auto)]
 
+pub mod binary;
+pub mod order;
 pub mod plan;
 pub mod work_out;

@@ -2,7 +2,7 @@
 --   Split w             a word is empty, or a word with one byte behind it
 --   Rows L w r          row r, if it isn't the dead one, is that of something that stands behind a front of w in L
 --   SetOf L w ws       the set ws is those rows
-use Rattle.std.proofs.Common.{◌≡◌, ℕ, ◌*◌, ◌/◌, ◌<◌, ◌≤◌, Bool, true, false, cond, ◌⊎◌, ◌↔◌, List, [], ◌∷◌, ◌++◌, length, replicate, sym, refl, ap, ◌∙◌, subst, inl, inr, ⊎_elim, arith}
+use Rattle.std.proofs.Common.{◌≡◌, ℕ, ◌*◌, ◌/◌, ◌<◌, ◌≤◌, Bool, true, false, cond, ◌⊎◌, ◌↔◌, List, [], ◌∷◌, ◌++◌, length, replicate, Some, Option, sym, refl, ap, ◌∙◌, subst, inl, inr, ⊎_elim, arith}
 use Rattle.std.proofs.lemmas.List.{append-nil, append_assoc, same_from_push, length-replicate}
 use Rattle.std.proofs.lemmas.Bool.{both_ways}
 use Rattle.machines.specs.Words.{Word, Bytes}
@@ -74,7 +74,7 @@ bit_cond true = refl
 bit_cond false = refl
 
 -- the finished table of q, and its dead row
-module _ {column least : ℕ → ℕ} {c : ℕ} {q : Pattern} {n : ℕ} {t : List ℕ} {d : ℕ} (C : Columns c column least) (G : Finished column q n t) (D : DeadRow c n t d) where
+module _ {column least : ℕ → ℕ} {c : ℕ} {q : Pattern} {n : ℕ} {t : List ℕ} {d : Option ℕ} (C : Columns c column least) (G : Finished column q n t) (D : DeadRow c n t d) where
   abbrev row : Word → ℕ
   row w = run (leads column t) 0 w
 
@@ -90,22 +90,22 @@ module _ {column least : ℕ → ℕ} {c : ℕ} {q : Pattern} {n : ℕ} {t : Lis
   of_row : (w : Word) → Bytes w → Of q w → shown t (row w) ≡ 1
   of_row w ok e = G.minimal.gives w ok ∙ ap bit e
 
-  dead_shows_none : (r : ℕ) → r < n → shown t r ≡ 1 → r ≡ d → ⊥
-  dead_shows_none r l e z = omega (arith, ap (shown t) z, (D.here (omega arith)).shows)
+  dead_shows_none : (r : ℕ) → shown t r ≡ 1 → Some r ≡ d → ⊥
+  dead_shows_none r e z = omega (arith, e, (D.here r (sym z)).shows)
 
   -- nothing leads out of the dead row
-  from_live : (r b : ℕ) → r < n → b < 256 → (cell t r (column b) ≡ d → ⊥) → r ≡ d → ⊥
-  from_live r b l m ne z = ne (ap (λ x. cell t x (column b)) z ∙ (D.here (omega arith)).stays (column b) (C.within b m))
+  from_live : (r b : ℕ) → b < 256 → (Some (cell t r (column b)) ≡ d → ⊥) → Some r ≡ d → ⊥
+  from_live r b l ne z = ne (ap Some ((D.here r (sym z)).stays (column b) (C.within b l)) ∙ z)
 
   -- something can still follow exactly if the row isn't the dead one
-  alive_live : (v : Word) → Bytes v → Alive (Of q) v → row v ≡ d → ⊥
+  alive_live : (v : Word) → Bytes v → Alive (Of q) v → Some (row v) ≡ d → ⊥
   alive_live v ok (x, fine, m) z =
-      let e : shown t (run (leads column t) d x) ≡ 1 = ap (λ r. shown t (run (leads column t) r x)) (sym z) ∙ ap (shown t) (sym (run_append (leads column t) 0 v x)) ∙ of_row (v ++ x) (bytes_append v x ok fine) m in
-      omega (arith, D.still column least C (omega (arith, below v ok)) x fine)
+      let e : shown t (run (leads column t) (row v) x) ≡ 1 = ap (shown t) (sym (run_append (leads column t) 0 v x)) ∙ of_row (v ++ x) (bytes_append v x ok fine) m in
+      omega (arith, D.still column least C (row v) (sym z) x fine)
 
-  live_alive : (v : Word) → Bytes v → (row v ≡ d → ⊥) → Alive (Of q) v
+  live_alive : (v : Word) → Bytes v → (Some (row v) ≡ d → ⊥) → Alive (Of q) v
   live_alive v ok ne =
-      let h = D.live column least C (λ w. bit (matches q w)) G.minimal (row v) (below v ok) ne in
+      let h = D.live column least C (λ w. bit (matches q w)) G.minimal (row v) (below v ok) (λ z. ne (sym z)) in
       let e : shown t (run (leads column t) (row v) h.0) ≡ bit (matches q (v ++ h.0)) = ap (shown t) (sym (run_append (leads column t) 0 v h.0)) ∙ G.minimal.gives (v ++ h.0) (bytes_append v h.0 ok h.1) in
       (h.0, h.1, some (matches q (v ++ h.0)) (λ z. h.2 (e ∙ z)))
     where
@@ -115,7 +115,7 @@ module _ {column least : ℕ → ℕ} {c : ℕ} {q : Pattern} {n : ℕ} {t : Lis
 
   module _ (L : Language) (m : ℕ) (room : n ≤ 32 * m) where
     abbrev pub Rows : Word → ℕ → Type 0
-    Rows w r = (v : Word) × Behind L w v × (row v ≡ r) × (r ≡ d → ⊥)
+    Rows w r = (v : Word) × Behind L w v × (row v ≡ r) × (Some r ≡ d → ⊥)
 
     pub record SetOf (w : Word) (ws : List ℕ) : Type 0 where
       pub long : length ws ≡ m
@@ -124,16 +124,16 @@ module _ {column least : ℕ → ℕ} {c : ℕ} {q : Pattern} {n : ℕ} {t : Lis
       pub to : (r : ℕ) → Rows w r → has ws r ≡ true
 
     -- row 0 is put in if there is a mark
-    mark_in : (x : Bool) (ws : List ℕ) (r : ℕ) → 0 < length ws → has (marks x d ws) r ≡ true → ((x ≡ true) × (r ≡ 0) × (r ≡ d → ⊥)) ⊎ (has ws r ≡ true)
-    mark_in true ws r l h = ⊎_elim (λ g. inl (refl, g.0, λ z. g.1 (sym g.0 ∙ z))) (λ g. inr g) (live_in ws 0 d l r h)
+    mark_in : (x : Bool) (ws : List ℕ) (r : ℕ) → 0 < length ws → has (marks x d ws) r ≡ true → ((x ≡ true) × (r ≡ 0) × (Some r ≡ d → ⊥)) ⊎ (has ws r ≡ true)
+    mark_in true ws r l h = ⊎_elim (λ g. inl (refl, g.0, λ z. g.1 (ap Some (sym g.0) ∙ z))) (λ g. inr g) (live_in ws 0 d l r h)
     mark_in false ws r l h = inr h
 
     mark_old : (x : Bool) (ws : List ℕ) (r : ℕ) → 0 < length ws → has ws r ≡ true → has (marks x d ws) r ≡ true
     mark_old true ws r l h = live_old ws 0 d l r h
     mark_old false ws r l h = h
 
-    mark_new : (x : Bool) (ws : List ℕ) (r : ℕ) → 0 < length ws → x ≡ true → r ≡ 0 → (r ≡ d → ⊥) → has (marks x d ws) r ≡ true
-    mark_new true ws r l h e ne = ap (has (add_live ws 0 d)) e ∙ live_new ws 0 d l (λ z. ne (e ∙ z))
+    mark_new : (x : Bool) (ws : List ℕ) (r : ℕ) → 0 < length ws → x ≡ true → r ≡ 0 → (Some r ≡ d → ⊥) → has (marks x d ws) r ≡ true
+    mark_new true ws r l h e ne = ap (has (add_live ws 0 d)) e ∙ live_new ws 0 d l (λ z. ne (ap Some e ∙ z))
     mark_new false ws r l h e ne = absurd (both_ways false refl h)
 
     mark_small : (x : Bool) (ws : List ℕ) → Small ws → Small (marks x d ws)
@@ -165,16 +165,16 @@ module _ {column least : ℕ → ℕ} {c : ℕ} {q : Pattern} {n : ℕ} {t : Lis
       within r l = omega (arith, G.minimal.numbered.closed r b l fine)
 
       -- a row of the set leads to r
-      on_from : (r : ℕ) → has on r ≡ true → (y : Word) × Behind L w y × (cell t (row y) (column b) ≡ r) × (r ≡ d → ⊥)
+      on_from : (r : ℕ) → has on r ≡ true → (y : Word) × Behind L w y × (cell t (row y) (column b) ≡ r) × (Some r ≡ d → ⊥)
       on_from r h =
           let g = moved_from t d (column b) ws m r n within h in
           let R = S.from g.0.0 g.0.2 in
           (R.0, R.1, ap (λ z. cell t z (column b)) R.2 ∙ g.0.3, g.1)
 
-      on_to : (y : Word) → Behind L w y → (r : ℕ) → cell t (row y) (column b) ≡ r → (r ≡ d → ⊥) → has on r ≡ true
+      on_to : (y : Word) → Behind L w y → (r : ℕ) → cell t (row y) (column b) ≡ r → (Some r ≡ d → ⊥) → has on r ≡ true
       on_to y B r e ne =
           let l = below y (behind_bytes L w y ok B) in
-          let live = from_live (row y) b l fine (λ z. ne (sym e ∙ z)) in
+          let live = from_live (row y) b fine (λ z. ne (ap Some (sym e) ∙ z)) in
           moved_to t d (column b) ws m r n within (row y, l, S.to (row y) (y, B, refl, live), e) ne
 
       pub set_more : (x : Bool) → ((x ≡ true) ↔ L (w ++ b ∷ [])) → SetOf (w ++ b ∷ []) (marks x d on)
@@ -209,7 +209,7 @@ module _ {column least : ℕ → ℕ} {c : ℕ} {q : Pattern} {n : ℕ} {t : Lis
               let fy = behind_bytes L w y ok B in
               let l = G.minimal.numbered.closed (row y) b (below y fy) fine in
               let e : shown t (cell t (row y) (column b)) ≡ 1 = ap (shown t) (sym (row_push y b)) ∙ of_row (y ++ b ∷ []) (bytes_push y b fy fine) h in
-              accepts_to t on n (cell t (row y) (column b)) l (on_to y B (cell t (row y) (column b)) refl (dead_shows_none (cell t (row y) (column b)) l e)) e
+              accepts_to t on n (cell t (row y) (column b)) l (on_to y B (cell t (row y) (column b)) refl (dead_shows_none (cell t (row y) (column b)) e)) e
 
     -- some row of the set accepts
     pub accepted : (w : Word) (ws : List ℕ) → Bytes w → SetOf w ws → (accepts t ws n ≡ true) ↔ ((v : Word) × Behind L w v × Of q v)
@@ -226,7 +226,7 @@ module _ {column least : ℕ → ℕ} {c : ℕ} {q : Pattern} {n : ℕ} {t : Lis
             let fv = behind_bytes L w v ok B in
             let l = below v fv in
             let e = of_row v fv h in
-            accepts_to t ws n (row v) l (S.to (row v) (v, B, refl, dead_shows_none (row v) l e)) e
+            accepts_to t ws n (row v) l (S.to (row v) (v, B, refl, dead_shows_none (row v) e)) e
 
     -- equal sets exactly if the same things are left behind
     module _ (u v : Word) (xs ys : List ℕ) (a : Bytes u) (b : Bytes v) (X : SetOf u xs) (Y : SetOf v ys) where
@@ -237,13 +237,13 @@ module _ {column least : ℕ → ℕ} {c : ℕ} {q : Pattern} {n : ℕ} {t : Lis
           there : (r : ℕ) → Rows u r → Rows v r
           there r (x, B, e, ne) =
               let fx = behind_bytes L u x a B in
-              let h = f x B (live_alive x fx (λ z. ne (sym e ∙ z))) in
+              let h = f x B (live_alive x fx (λ z. ne (ap Some (sym e) ∙ z))) in
               (h.0, h.1, sym ((finished_rows G x h.0 fx (behind_bytes L v h.0 b h.1)).1 h.2) ∙ e, ne)
 
           back : (r : ℕ) → Rows v r → Rows u r
           back r (y, B, e, ne) =
               let fy = behind_bytes L v y b B in
-              let h = g y B (live_alive y fy (λ z. ne (sym e ∙ z))) in
+              let h = g y B (live_alive y fy (λ z. ne (ap Some (sym e) ∙ z))) in
               (h.0, h.1, (finished_rows G h.0 y (behind_bytes L u h.0 a h.1) fy).1 h.2 ∙ e, ne)
 
       pub set_same : xs ≡ ys → SameBehind L (Of q) u v

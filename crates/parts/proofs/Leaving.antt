@@ -1,7 +1,7 @@
 -- What leaves finitely many things has its finished table, with a dead row or without; and a system of bounded keys that shows what
 -- a pattern matches tells finitely many classes apart and leaves finitely many things. Assumes nothing.
 --   Works p       both: what the step at p's top tells apart, and what p leaves
-use Rattle.std.proofs.Common.{◌≡◌, ℕ, zero, suc, ◌<◌, ◌≤◌, ◌⊎◌, ◌↔◌, List, length, refl, ap, ◌∙◌, inl, inr, ⊎_elim, arith}
+use Rattle.std.proofs.Common.{◌≡◌, ℕ, zero, suc, ◌<◌, ◌≤◌, ◌⊎◌, ◌↔◌, List, length, Some, None, Option, refl, ap, ◌∙◌, inl, inr, ⊎_elim, arith}
 use Rattle.std.proofs.lemmas.Bool.{cases_eq}
 use Rattle.machines.specs.Words.{Word, Bytes}
 use Rattle.machines.specs.Classes.{Classes}
@@ -18,7 +18,7 @@ use Rattle.machines.proofs.Reached.{few_keys}
 use Rattle.machines.proofs.Existing.{classes_table, few_classes_of, table_minimal}
 use Rattle.machines.proofs.Dead.{dead_silent, live_or_dead}
 use Rattle.refinement.specs.DeadRows.{IsDead, DeadRow}
-use Rattle.refinement.proofs.DeadRows.{dead_row_lem}
+use Rattle.refinement.proofs.DeadRows.{NoneDead, dead_row_lem}
 use Rattle.patterns.specs.Patterns.{Pattern, matches}
 use Rattle.patterns.specs.Residuals.{Of, SameResidual}
 use Rattle.patterns.specs.Searching.{bit}
@@ -74,9 +74,6 @@ left_finished p (firsts, cs) =
     let r = classes_table f (nerode_congruence f).back (classes_related (λ u v _ _. residual_nerode p u v) cs) in
     (length firsts, r.0, finished (λ b. b) p (length firsts) r.0 (table_minimal f firsts r.0 r.1))
 
-abbrev None : List ℕ → ℕ → Type 0
-None t n = (r : ℕ) → r < n → IsDead 256 t r → ⊥
-
 -- the least dead row, if there is one
 module _ {f : Word → ℕ} {k : ℕ} {t : List ℕ} (M : Minimal f k (leads (λ b. b) t) (shown t)) where
   is_dead_lem : (r : ℕ) → r < k → IsDead 256 t r ⊎ (IsDead 256 t r → ⊥)
@@ -88,18 +85,18 @@ module _ {f : Word → ℕ} {k : ℕ} {t : List ℕ} (M : Minimal f k (leads (λ
       by_bytes : IsDead 256 t r → Dead (leads (λ b. b) t) (shown t) r
       by_bytes D = record { silent = D.shows; stays = D.stays }
 
-  least_dead : (n : ℕ) → n ≤ k → ((d : ℕ) × (d < n) × IsDead 256 t d × None t d) ⊎ None t n
+  least_dead : (n : ℕ) → n ≤ k → ((d : ℕ) × (d < n) × IsDead 256 t d × NoneDead 256 t d) ⊎ NoneDead 256 t n
   least_dead zero l = inr (λ r h D. omega arith)
   least_dead (suc n) l = ⊎_elim
       (λ (d, h, D, none). inl (d, omega arith, D, none))
-      (λ (none : None t n). ⊎_elim
+      (λ (none : NoneDead 256 t n). ⊎_elim
       (λ (D : IsDead 256 t n). inl (n, omega arith, D, none))
       (λ (ne : IsDead 256 t n → ⊥). inr (λ r h D. ⊎_elim (λ (e : r ≡ n). ne (rw e at D)) (λ (e : r ≡ n → ⊥). none r (omega arith) D) (cases_eq r n)))
       (is_dead_lem n (omega arith)))
       (least_dead n (omega arith))
 
-  pub has_dead_row : (d : ℕ) × DeadRow 256 k t d
+  pub has_dead_row : (d : Option ℕ) × DeadRow 256 k t d
   has_dead_row = ⊎_elim
-      (λ (d, h, D, none). (d, dead_row_lem 256 k t d (omega arith) (λ _. D) none))
-      (λ (none : None t k). (k, dead_row_lem 256 k t k (omega arith) (λ l. absurd (omega arith)) none))
+      (λ (d, h, D, none). (Some d, dead_row_lem 256 k t (Some d) (h, D, none)))
+      (λ (none : NoneDead 256 t k). (None, dead_row_lem 256 k t None none))
       (least_dead k (omega arith))

@@ -1,6 +1,6 @@
 -- Many: whether it matches, and the set of live rows, are what it tells apart. Assumes nothing.
 --   StarKey k w    the key k is that of the word w
-use Rattle.std.proofs.Common.{◌≡◌, ℕ, ◌*◌, ◌<◌, ◌≤◌, Bool, true, ◌⊎◌, ◌↔◌, List, [], ◌∷◌, ◌++◌, length, get_or, drop, sym, refl, ap, ◌∙◌, inl, inr, ⊎_elim, arith, length-append}
+use Rattle.std.proofs.Common.{◌≡◌, ℕ, ◌*◌, ◌<◌, ◌≤◌, Bool, true, ◌⊎◌, ◌↔◌, List, [], ◌∷◌, ◌++◌, length, get_or, drop, Option, sym, refl, ap, ◌∙◌, inl, inr, ⊎_elim, arith, length-append}
 use Rattle.std.proofs.lemmas.List.{append-nil, append_assoc, same_from_push}
 use Rattle.machines.specs.Words.{Word, Bytes}
 use Rattle.machines.specs.Columns.{Columns}
@@ -65,7 +65,7 @@ reach_append : (next : Key → ℕ → Key) (s : Key) (u v : Word) → reach nex
 reach_append next s [] v = refl
 reach_append next s (b ∷ u) v = reach_append next (next s b) u v
 
-module _ {column least : ℕ → ℕ} {c : ℕ} {p : Pattern} {n : ℕ} {t : List ℕ} {d : ℕ} (m : ℕ) (C : Columns c column least) (F : Finished column p n t)
+module _ {column least : ℕ → ℕ} {c : ℕ} {p : Pattern} {n : ℕ} {t : List ℕ} {d : Option ℕ} (m : ℕ) (C : Columns c column least) (F : Finished column p n t)
     (D : DeadRow c n t d) (room : n ≤ 32 * m) where
   abbrev next : Key → ℕ → Key
   next k b = again t d m n k (column b)

@@ -1,6 +1,6 @@
 -- One after the other: a row of the first and the set of live rows of the second are what it tells apart. Assumes nothing.
 --   SeqKey k w    the key k is that of the word w
-use Rattle.std.proofs.Common.{◌≡◌, ℕ, ◌*◌, ◌<◌, ◌≤◌, true, ◌↔◌, List, [], ◌∷◌, ◌++◌, get_or, drop, sym, refl, ap, ◌∙◌, subst}
+use Rattle.std.proofs.Common.{◌≡◌, ℕ, ◌*◌, ◌<◌, ◌≤◌, true, ◌↔◌, List, [], ◌∷◌, ◌++◌, get_or, drop, Option, sym, refl, ap, ◌∙◌, subst}
 use Rattle.std.proofs.lemmas.Bool.{eq-eqb, eqb-true}
 use Rattle.machines.specs.Words.{Word, Bytes}
 use Rattle.machines.specs.Machines.{run}
@@ -21,7 +21,7 @@ use Rattle.parts.proofs.Behinds.{kept_along, bit_cond, SetOf, set_none, set_more
 pub key_same : (k l : Key) → k ≡ get_or k 0 0 ∷ drop 1 k → l ≡ get_or l 0 0 ∷ drop 1 l → get_or k 0 0 ≡ get_or l 0 0 → drop 1 k ≡ drop 1 l → k ≡ l
 key_same k l a b e f = a ∙ ap (λ z. z ∷ drop 1 k) e ∙ ap (λ z. get_or l 0 0 ∷ z) f ∙ sym b
 
-module _ {column least : ℕ → ℕ} {c : ℕ} {p q : Pattern} {l n : ℕ} {s t : List ℕ} {d : ℕ} (m : ℕ) (C : Columns c column least) (F : Finished column p l s)
+module _ {column least : ℕ → ℕ} {c : ℕ} {p q : Pattern} {l n : ℕ} {s t : List ℕ} {d : Option ℕ} (m : ℕ) (C : Columns c column least) (F : Finished column p l s)
     (G : Finished column q n t) (D : DeadRow c n t d) (room : n ≤ 32 * m) where
   abbrev next : Key → ℕ → Key
   next k b = followed s t d m n k (column b)

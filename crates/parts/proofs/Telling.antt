@@ -1,6 +1,6 @@
 -- Each kind of part tells finitely many classes apart if its parts leave finitely many things; so every sound pattern leaves
 -- finitely many, and fits into some number of classes. Assumes nothing.
-use Rattle.std.proofs.Common.{◌≡◌, ℕ, zero, suc, ◌+◌, ◌*◌, ◌/◌, ◌^◌, ◌<◌, ◌≤◌, Bool, true, false, cond, not, ◌&&◌, eqb, ltb, leb, ◌↔◌, List, [], ◌∷◌, ◌++◌, length, get_or, drop, sym, refl, ap, ◌∙◌, subst, arith}
+use Rattle.std.proofs.Common.{◌≡◌, ℕ, zero, suc, ◌+◌, ◌*◌, ◌/◌, ◌^◌, ◌<◌, ◌≤◌, Bool, true, false, cond, not, ◌&&◌, eqb, ltb, leb, ◌↔◌, List, [], ◌∷◌, ◌++◌, length, get_or, drop, Option, sym, refl, ap, ◌∙◌, subst, arith}
 use Rattle.std.proofs.lemmas.Bool.{and_parts, ltb-true, leb-true}
 use Rattle.machines.specs.Words.{Word, Bytes}
 use Rattle.machines.specs.Machines.{run}
@@ -10,8 +10,9 @@ use Rattle.machines.proofs.Nerode.{nerode_append}
 use Rattle.machines.proofs.Relating.{classes_related}
 use Rattle.machines.proofs.Firsts.{numbered_below}
 use Rattle.refinement.specs.DeadRows.{DeadRow}
-use Rattle.exploration.specs.declared.pairs.Join.TheVariants.{Or, And}
-use Rattle.exploration.specs.Pairs.{pair_next, pair_shows}
+use Rattle.exploration.specs.declared.pairs.Connective.{Connective}
+use Rattle.exploration.specs.declared.pairs.Connective.TheVariants.{Or, And}
+use Rattle.exploration.specs.Pairs.{joined, pair_next, pair_shows}
 use Rattle.exploration.proofs.Paired.{pair_reach}
 use Rattle.subsets.specs.Sets.{followed, unread, follow_shows, again, whole}
 use Rattle.subsets.proofs.SetBits.{Small}
@@ -23,11 +24,12 @@ use Rattle.patterns.specs.Searching.{bit}
 use Rattle.parts.specs.declared.leaf.Leaf.{Leaf}
 use Rattle.parts.specs.declared.leaf.Leaf.TheVariants.{Nothing, Empty, Range}
 use Rattle.parts.specs.Leaves.{leaf_pattern, leaf_next, leaf_shows, leaf_step, SoundLeaf}
+use Rattle.parts.specs.Combining.{joined_pattern}
 use Rattle.parts.specs.Steps.{Finished}
 use Rattle.parts.specs.Told.{Left, PartsTell}
 use Rattle.parts.proofs.Keyed.{residual_nerode, both_true}
 use Rattle.parts.proofs.Leaves.{leaf_keyed, leaf_says}
-use Rattle.parts.proofs.Pairs.{union_keyed, inter_keyed, union_says, inter_says}
+use Rattle.parts.proofs.Pairs.{connected_keyed, connected_says}
 use Rattle.parts.proofs.Behinds.{kept_along}
 use Rattle.parts.proofs.Sequences.{seq_key, seq_keyed, seq_says}
 use Rattle.parts.proofs.Repetitions.{star_key, star_keyed, star_says}
@@ -66,17 +68,11 @@ module _ {p q : Pattern} {m n : ℕ} {l r : List ℕ} (F : Finished (λ b. b) p 
       at (suc zero) = omega (arith, numbered_below G.minimal.numbered w ok)
       at (suc (suc i)) = omega (arith, F.minimal.numbered.some)
 
-  union_finished_works : Works (union p q)
-  union_finished_works = bounded_works (pair_shows Or l r) (m + n) 2 (union_keyed F G) (union_says F G) pair_low
+  connected_finished : (j : Connective) → Works (joined_pattern j p q)
+  connected_finished j = bounded_works (pair_shows (joined j) l r) (m + n) 2 (connected_keyed F G j) (connected_says F G j) pair_low
 
-  inter_finished_works : Works (inter p q)
-  inter_finished_works = bounded_works (pair_shows And l r) (m + n) 2 (inter_keyed F G) (inter_says F G) pair_low
-
-union_works : (p q : Pattern) → Left p → Left q → Works (union p q)
-union_works p q a b = union_finished_works (left_finished p a).2 (left_finished q b).2
-
-inter_works : (p q : Pattern) → Left p → Left q → Works (inter p q)
-inter_works p q a b = inter_finished_works (left_finished p a).2 (left_finished q b).2
+connected_works : (j : Connective) (p q : Pattern) → Left p → Left q → Works (joined_pattern j p q)
+connected_works j p q a b = connected_finished (left_finished p a).2 (left_finished q b).2 j
 
 -- a small number and the words of a set
 set_low : (k : Key) (h m : ℕ) → k ≡ get_or k 0 0 ∷ drop 1 k → get_or k 0 0 < h → length (drop 1 k) ≡ m → Small (drop 1 k) → Within (h + 2 ^ 32) (1 + m) k
@@ -94,7 +90,7 @@ room : (n : ℕ) → n ≤ 32 * words n
 unfolding words
 room n = omega arith
 
-module _ {p q : Pattern} {l n d : ℕ} {s t : List ℕ} (F : Finished (λ b. b) p l s) (G : Finished (λ b. b) q n t) (D : DeadRow 256 n t d) where
+module _ {p q : Pattern} {l n : ℕ} {d : Option ℕ} {s t : List ℕ} (F : Finished (λ b. b) p l s) (G : Finished (λ b. b) q n t) (D : DeadRow 256 n t d) where
   seq_low : (w : Word) → Bytes w → Within (l + 2 ^ 32) (1 + words n) (reach (λ k b. followed s t d (words n) n k b) (unread s d (words n)) w)
   seq_low w ok =
       let K = seq_key (words n) each_byte F G D (room n) w ok in
@@ -112,7 +108,7 @@ bit_low : (b : Bool) → bit b < 2
 bit_low true = omega arith
 bit_low false = omega arith
 
-module _ {p : Pattern} {n d : ℕ} {t : List ℕ} (F : Finished (λ b. b) p n t) (D : DeadRow 256 n t d) where
+module _ {p : Pattern} {n : ℕ} {d : Option ℕ} {t : List ℕ} (F : Finished (λ b. b) p n t) (D : DeadRow 256 n t d) where
   star_low : (w : Word) → Bytes w → Within (2 + 2 ^ 32) (1 + words n) (reach (λ k b. again t d (words n) n k b) (whole d (words n)) w)
   star_low w ok =
       let K = star_key (words n) each_byte F D (room n) w ok in
@@ -158,8 +154,8 @@ works nothing s = leaf_works Nothing tt
 works empty s = leaf_works Empty tt
 works (range a b) s = leaf_works (Range a b) (range_sound a b s)
 works (seq p q) s = let h = and_parts (sound p) (sound q) s in seq_works p q (works p h.0).left (works q h.1).left
-works (union p q) s = let h = and_parts (sound p) (sound q) s in union_works p q (works p h.0).left (works q h.1).left
-works (inter p q) s = let h = and_parts (sound p) (sound q) s in inter_works p q (works p h.0).left (works q h.1).left
+works (union p q) s = let h = and_parts (sound p) (sound q) s in connected_works Or p q (works p h.0).left (works q h.1).left
+works (inter p q) s = let h = and_parts (sound p) (sound q) s in connected_works And p q (works p h.0).left (works q h.1).left
 works (compl p) s = compl_works p (works p s).left
 works (star p) s = star_works p (works p s).left
 
@@ -202,8 +198,8 @@ parts_tell_lem = record {
   of_empty = (leaf_works Empty tt).told;
   of_range = λ a b l m. (leaf_works (Range a b) (l, m)).told;
   of_sequence = λ p q a b. (seq_works p q a b).told;
-  of_union = λ p q a b. (union_works p q a b).told;
-  of_intersection = λ p q a b. (inter_works p q a b).told;
+  of_union = λ p q a b. (connected_works Or p q a b).told;
+  of_intersection = λ p q a b. (connected_works And p q a b).told;
   of_complement = λ p a. (compl_works p a).told;
   of_star = λ p a. (star_works p a).told;
   left = λ p s. (works p s).left;
