@@ -4,7 +4,7 @@ use mathlib.Core.Option.{some}
 use lib.Bits.{bit_or, or_shifted_r}
 use Rattle.std.proofs.lemmas.Nat.{one_shl}
 use Rattle.std.specs.Iterator.{Yields}
-use Rattle.std.proofs.lemmas.List.{take_at, drop_at, take_all, length-drop, length_push, take_rest, take_more, take_more_set, drop-set-lt, append_assoc, append-nil, drop_all, drop_more}
+use Rattle.std.proofs.lemmas.List.{take_at, drop_at, take_all, length-drop, length_push, take_rest, take_more, take_more_set, append_assoc, append-nil, drop_all, drop_more}
 use Rattle.std.proofs.lemmas.Bool.{and_from, and_right, le-leb}
 use Rattle.machines.specs.Words.{Word, Bytes}
 use Rattle.machines.specs.Classes.{nth}

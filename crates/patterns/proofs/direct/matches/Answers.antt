@@ -1,4 +1,4 @@
-use Rattle.std.proofs.Common.{◌≡◌, length, sym, ap, ◌∙◌, subst, arith}
+use Rattle.std.proofs.Common.{sym, subst, arith}
 use Rattle.machines.proofs.Places.{nth_below}
 use Rattle.patterns.specs.Promises.{MatchedPost}
 use Rattle.patterns.proofs.Cutting.{meaning}

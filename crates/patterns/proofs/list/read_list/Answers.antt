@@ -1,6 +1,6 @@
-use Rattle.std.proofs.Common.{Some, None, sym, subst, arith}
+use Rattle.std.proofs.Common.{sym, subst, arith}
 use Rattle.patterns.specs.Promises.{ListRead}
-use Rattle.patterns.proofs.Extents.{Reading, pattern_later, reading_none, reading_more, list_long, list_many, list_none, list_all}
+use Rattle.patterns.proofs.Extents.{reading_more, list_long, list_many, list_none, list_all}
 use Rattle.patterns.proofs.list.read_list.Goals as goal
 
 pub returns-then-list-gt-MOST_BYTES : goal.returns-then-list-gt-MOST_BYTES

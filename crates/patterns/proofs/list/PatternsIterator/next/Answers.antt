@@ -1,5 +1,4 @@
 use Rattle.std.proofs.Common.{refl, arith}
-use Rattle.patterns.proofs.Extents.{pattern_later}
 use Rattle.patterns.proofs.Ending.{walk_there, walk_more}
 use Rattle.patterns.proofs.list.PatternsIterator.next.Goals as goal
 
