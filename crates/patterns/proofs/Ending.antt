@@ -1,16 +1,18 @@
 -- Which patterns end after a text, decided by its last parts and collected as bits. Assumes nothing.
-use Rattle.std.proofs.Common.{◌≡◌, ℕ, zero, suc, ◌+◌, ◌-◌, ◌*◌, ◌%◌, ◌^◌, ◌<◌, ◌≤◌, Bool, true, false, leb, List, [], ◌∷◌, ◌++◌, length, get_or, take, drop, set, sym, refl, ap, ◌∙◌, subst, mul_assoc, add-mul, pow-suc, add-one, arith}
+use Rattle.std.proofs.Common.{◌≡◌, ℕ, zero, suc, ◌+◌, ◌-◌, ◌*◌, ◌%◌, ◌^◌, ◌<◌, ◌≤◌, Bool, true, false, leb, List, [], ◌∷◌, ◌++◌, Some, None, length, get_or, take, drop, set, sym, refl, ap, ◌∙◌, subst, mul_assoc, add-mul, pow-suc, add-one, arith}
 use mathlib.Core.Option.{some}
 use lib.Bits.{bit_or, or_shifted_r}
 use Rattle.std.proofs.lemmas.Nat.{one_shl}
-use Rattle.std.proofs.lemmas.List.{length-drop, length_push, take_rest, take_more, take_more_set, drop-set-lt, append_assoc, append-nil, drop_all, drop_more}
+use Rattle.std.specs.Iterator.{Yields}
+use Rattle.std.proofs.lemmas.List.{take_at, drop_at, take_all, length-drop, length_push, take_rest, take_more, take_more_set, append_assoc, append-nil, drop_all, drop_more}
 use Rattle.std.proofs.lemmas.Bool.{and_from, and_right, le-leb}
 use Rattle.machines.specs.Words.{Word, Bytes}
 use Rattle.machines.specs.Classes.{nth}
 use Rattle.patterns.specs.Patterns.{Pattern, range, star, matches}
 use Rattle.patterns.specs.Lists.{ListOf, write_list}
 use Rattle.patterns.specs.Searching.{anywhere, bit, ends, ends_along}
-use Rattle.patterns.specs.Promises.{PatternAt, SomePattern, SomeList, EndsAt, BitsAfter}
+use Rattle.patterns.specs.declared.list.Patterns.{Patterns}
+use Rattle.patterns.specs.Promises.{PatternAt, SomePattern, SomePatterns, SomeList, Passed, PatternPassed, EndsAt, BitsAfter}
 use Rattle.patterns.proofs.Trees.{one_list}
 use Rattle.patterns.proofs.Extents.{PartsAt, parts_first, pattern_later}
 use Rattle.patterns.proofs.Cutting.{Many, done, more, words_many, cut_some, cut_none}
@@ -75,6 +77,31 @@ pub parts_there : {s : List ℕ} {at : ℕ} {ps : List Pattern} → PartsAt s at
 parts_there {s = s} {at = at} {ps = []} h l = absurd (omega (arith, ap length h.is, length-drop at s, length-drop (length s) s))
 parts_there {ps = p ∷ qs} h l = (p, qs, refl)
 
+-- a walk over the patterns that stand from a place on
+pub walk_start : {s : List ℕ} → SomeList s → SomePatterns s 0
+walk_start l = let h = list_parts l.here in record { patterns = l.patterns; stand = record { is = h.is; within = h.within }; sounds = h.sounds }
+
+walk_parts : {s : List ℕ} {at : ℕ} (w : SomePatterns s at) → PartsAt s at w.patterns (length s)
+walk_parts w = record { is = w.stand.is; within = w.stand.within; sounds = w.sounds }
+
+pub parts_begin : {s : List ℕ} {at : ℕ} {ps : List Pattern} → PartsAt s at ps (length s) → at < length s → SomePattern s at
+parts_begin {s = s} {at = at} {ps = []} k l = absurd (omega (arith, ap length k.is, length-drop at s, length-drop (length s) s))
+parts_begin {ps = p ∷ ps} k l = let f = parts_first k in record { pattern = p; stop = f.mid; here = f.first }
+
+pub walk_there : {s : List ℕ} {at : ℕ} → SomePatterns s at → at < length s → SomePattern s at
+walk_there w l = parts_begin (walk_parts w) l
+
+pub walk_more : {s : List ℕ} {at : ℕ} (next : ℕ) → SomePatterns s at → at < length s → ((p : Pattern) (stop : ℕ) → PatternAt s at p stop → next ≡ stop) → (at < next) × SomePatterns s next
+walk_more next w l behind = go w.patterns (walk_parts w) l behind
+  where
+    go : {s : List ℕ} {at : ℕ} (ps : List Pattern) → PartsAt s at ps (length s) → at < length s → ((p : Pattern) (stop : ℕ) → PatternAt s at p stop → next ≡ stop) → (at < next) × SomePatterns s next
+    go {s = s} {at = at} [] k l behind = absurd (omega (arith, ap length k.is, length-drop at s, length-drop (length s) s))
+    go {s = s} (p ∷ ps) k l behind =
+        let f = parts_first k in
+        let e : next ≡ f.mid = behind p f.mid f.first in
+        let there = subst (λ (i : ℕ). PartsAt s i ps (length s)) (sym e) f.others in
+        (omega (arith, pattern_later f.first), record { patterns = ps; stand = record { is = there.is; within = there.within }; sounds = there.sounds })
+
 -- a bit above all that are set is added
 pub bit_added : (bits index : ℕ) → bits < 2 ^ index → index < 32 → bit_or bits ((1 * 2 ^ index) % 2 ^ 32) ≡ bits + bit true * 2 ^ index
 bit_added bits index small l =
@@ -99,13 +126,6 @@ small_more bits index x l = let twice : 2 ^ (index + 1) ≡ 2 ^ index * 2 = ap (
     go : (x : Bool) → bits + bit x * 2 ^ index < 2 ^ (index + 1)
     go true = omega (arith, pow-suc 2 index, ap (λ k. 2 ^ k) (add-one index))
     go false = omega (arith, pow-suc 2 index, ap (λ k. 2 ^ k) (add-one index))
-
-pub collecting_there : {s : List ℕ} {w : Word} {bits at index : ℕ} → Collecting s w bits at index → at < length s → SomePattern s at
-collecting_there c l = let h = parts_there c.there l in go c.later h.2 c.there
-  where
-    go : {s : List ℕ} {at : ℕ} {p : Pattern} {qs : List Pattern} (ps : List Pattern) → ps ≡ p ∷ qs → PartsAt s at ps (length s) → SomePattern s at
-    go [] e k = absurd (let z : ◌≡◌ {A = ℕ} 0 1 = cc in omega arith)
-    go (p ∷ ps) e k = let f = parts_first k in record { pattern = p; stop = f.mid; here = f.first }
 
 pub collecting_room : {s : List ℕ} {w : Word} {bits at index : ℕ} → Collecting s w bits at index → at < length s → index < 32
 collecting_room {s = s} {at = at} {index = index} c l = let h = parts_there c.there l in omega (arith, ap length h.2, c.few)
@@ -139,6 +159,35 @@ collecting_all {s = s} {w = w} {bits = bits} {index = index} c l ps o =
     let e : bits + ends [] w * 2 ^ index ≡ bits = omega arith in
     sym (sym (c.collected ps o) ∙ ap (λ qs. bits + ends qs w * 2 ^ index) (parts_end c.there l) ∙ e)
 
+-- a walk over the list begins
+pub collecting_start : {s : List ℕ} (w : Word) (i : Patterns) (count : ℕ) → i.list.now ≡ s → i.at ≡ 0 → count ≡ 0 → SomeList s
+    → SomePatterns i.list.now i.at × (count + (length i.list.now - i.at) < 2 ^ 64) × Collecting s w 0 i.at count
+collecting_start {s = s} w i count e a n l = (
+  subst (λ (t : List ℕ). SomePatterns t i.at) (sym e) (subst (SomePatterns s) (sym a) (walk_start l)),
+  omega (arith, ap length e, l.here.short),
+  subst (λ (k : ℕ). Collecting s w 0 k count) (sym a) (subst (Collecting s w 0 0) (sym n) (collecting_none w l)),
+)
+
+-- what it comes to
+pub collecting_here : {s : List ℕ} {w : Word} {bits index : ℕ} (i j : Patterns) (at : ℕ) → i.list.now ≡ s → Collecting s w bits i.at index → PatternPassed i (Some at) j → (index < 32) × SomePattern s at
+collecting_here {s = s} i j at e c step =
+    let h = subst (λ (t : List ℕ). Passed t i.at (Some at) j.at) e step.says in
+    (collecting_room c h.0, subst (SomePattern s) (sym h.1) (parts_begin c.there h.0))
+
+-- a turn of the walk
+pub collecting_turn : {s : List ℕ} {w : Word} {bits index : ℕ} (bits' : ℕ) (x : Bool) (i j : Patterns) (at k n : ℕ) → i.list.now ≡ s → Collecting s w bits i.at index → PatternPassed i (Some at) j
+    → EndsAt s at w x → k ≡ index → n ≡ index + 1 → bits' ≡ bits + bit x * 2 ^ k → (j.list.now ≡ s) × Collecting s w bits' j.at n
+collecting_turn {s = s} {w = w} {bits = bits} {index = index} bits' x i j at k n e c step answer here on is =
+    let h = subst (λ (t : List ℕ). Passed t i.at (Some at) j.at) e step.says in (
+      step.list ∙ e,
+      subst (Collecting s w bits' j.at) (sym on)
+          (collecting_more bits' x j.at c h.0 (subst (λ (a : ℕ). EndsAt s a w x) h.1 answer) (is ∙ ap (λ m. bits + bit x * 2 ^ m) here) h.2),
+    )
+
+-- and its end
+pub collecting_end : {s : List ℕ} {w : Word} {bits index : ℕ} (i j : Patterns) → i.list.now ≡ s → Collecting s w bits i.at index → PatternPassed i None j → BitsAfter s w bits
+collecting_end i j e c step = collecting_all c (subst (λ (t : List ℕ). Passed t i.at None j.at) e step.says).0
+
 -- The first patterns of a list passed over.
 pub record Passing (s : List ℕ) (at passed : ℕ) : Type 0 where
   pub front : List Pattern
@@ -150,12 +199,12 @@ pub record Passing (s : List ℕ) (at passed : ℕ) : Type 0 where
 pub passing_none : {s : List ℕ} {ps : List Pattern} → ListOf s ps → Passing s 0 0
 passing_none {ps = ps} o = record { front = []; later = ps; there = list_parts o; whole = o; long = refl }
 
-pub passing_more : {s : List ℕ} {at passed : ℕ} (ps : List Pattern) (next : ℕ) → Passing s at passed → ListOf s ps → passed < length ps
-    → ((p : Pattern) (stop : ℕ) → PatternAt s at p stop → next ≡ stop) → Passing s next (passed + 1)
-passing_more {s = s} {at = at} {passed = passed} ps next c o l behind = go c.later c.there c.whole
+pub passing_more : {s : List ℕ} {at passed : ℕ} (next : ℕ) → Passing s at passed → at < length s → ((p : Pattern) (stop : ℕ) → PatternAt s at p stop → next ≡ stop)
+    → Passing s next (passed + 1)
+passing_more {s = s} {at = at} {passed = passed} next c l behind = go c.later c.there c.whole
   where
     go : (qs : List Pattern) → PartsAt s at qs (length s) → ListOf s (c.front ++ qs) → Passing s next (passed + 1)
-    go [] k w = absurd (omega (arith, c.long, ap length (one_list s ps (c.front ++ []) o w), ap length (append-nil c.front)))
+    go [] k w = absurd (omega (arith, ap length k.is, length-drop at s, length-drop (length s) s))
     go (q ∷ qs) k w =
         let h = parts_first k in
         record {
@@ -165,6 +214,17 @@ passing_more {s = s} {at = at} {passed = passed} ps next c o l behind = go c.lat
           whole = subst (λ (ps : List Pattern). ListOf s ps) (sym (append_assoc c.front (q ∷ []) qs)) w;
           long = length_push c.front q ∙ ap (λ n. n + 1) c.long;
         }
+
+-- the places that a walk gave were passed over
+pub passing_along : {s : List ℕ} (xs : List ℕ) (i j : Patterns) (passed : ℕ) → i.list.now ≡ s → Passing s i.at passed → Yields PatternPassed i xs j
+    → (j.list.now ≡ s) × Passing s j.at (passed + length xs)
+passing_along {s = s} [] i j passed e c y =
+    let none : passed ≡ passed + 0 = omega arith in
+    subst (λ (k : Patterns). (k.list.now ≡ s) × Passing s k.at (passed + 0)) y (e, subst (Passing s i.at) none c)
+passing_along {s = s} (x ∷ xs) i j passed e c (k, step, y) =
+    let h = subst (λ (t : List ℕ). Passed t i.at (Some x) k.at) e step.says in
+    let r = passing_along xs k j (passed + 1) (step.list ∙ e) (passing_more k.at c h.0 h.2) y in
+    (r.0, subst (λ (n : ℕ). Passing s j.at n) (let e : passed + 1 + length xs ≡ passed + suc (length xs) = omega arith in e) r.1)
 
 nth_behind : (ps : List Pattern) (q : Pattern) (qs : List Pattern) → nth (ps ++ q ∷ qs) (length ps) ≡ some q
 nth_behind [] q qs = refl
@@ -179,11 +239,11 @@ pub record Next (s : List ℕ) (at passed : ℕ) : Type 0 where
   pub here : PatternAt s at pattern stop
   pub numbered : nth ps passed ≡ some pattern
 
-pub passing_next : {s : List ℕ} {at passed : ℕ} (ps : List Pattern) → Passing s at passed → ListOf s ps → passed < length ps → Next s at passed
-passing_next {s = s} {at = at} {passed = passed} ps c o l = go c.later c.there c.whole
+pub passing_next : {s : List ℕ} {at passed : ℕ} → Passing s at passed → at < length s → Next s at passed
+passing_next {s = s} {at = at} {passed = passed} c l = go c.later c.there c.whole
   where
     go : (qs : List Pattern) → PartsAt s at qs (length s) → ListOf s (c.front ++ qs) → Next s at passed
-    go [] k w = absurd (omega (arith, c.long, ap length (one_list s ps (c.front ++ []) o w), ap length (append-nil c.front)))
+    go [] k w = absurd (omega (arith, ap length k.is, length-drop at s, length-drop (length s) s))
     go (q ∷ qs) k w = let h = parts_first k in record {
       ps = c.front ++ q ∷ qs;
       list = w;
@@ -193,31 +253,50 @@ passing_next {s = s} {at = at} {passed = passed} ps c o l = go c.later c.there c
       numbered = ap (nth (c.front ++ q ∷ qs)) (sym c.long) ∙ nth_behind c.front q qs;
     }
 
+pub passing_nth : {s : List ℕ} {ps : List Pattern} (xs : List ℕ) (i t u : Patterns) (at n : ℕ) → ListOf s ps → i.list.now ≡ s → i.at ≡ 0 → Yields PatternPassed i xs t → PatternPassed t (Some at) u
+    → length xs ≡ n → Next s at n
+passing_nth {s = s} xs i t u at n o e a y step long =
+    let p = passing_along xs i t 0 e (subst (λ (k : ℕ). Passing s k 0) (sym a) (passing_none o)) y in
+    let h = subst (λ (r : List ℕ). Passed r t.at (Some at) u.at) p.0 step.says in
+    let same : 0 + length xs ≡ n = omega arith in
+    subst (Next s at) same (subst (λ (k : ℕ). Next s k (0 + length xs)) (sym h.1) (passing_next p.1 h.0))
+
+-- at the end there are no more
+pub passing_all : {s : List ℕ} {at passed : ℕ} → Passing s at passed → length s ≤ at → (ps : List Pattern) → ListOf s ps → length ps ≡ passed
+passing_all {s = s} {passed = passed} c l ps o =
+    ap length (one_list s ps (c.front ++ c.later) o c.whole) ∙ ap (λ qs. length (c.front ++ qs)) (parts_end c.there l) ∙ ap length (append-nil c.front) ∙ c.long
+
+pub passing_end : {s : List ℕ} (xs : List ℕ) (i t u : Patterns) → i.list.now ≡ s → i.at ≡ 0 → Yields PatternPassed i xs t → PatternPassed t None u → (ps : List Pattern) → ListOf s ps → length ps ≡ length xs
+passing_end {s = s} xs i t u e a y step ps o =
+    let p = passing_along xs i t 0 e (subst (λ (k : ℕ). Passing s k 0) (sym a) (passing_none o)) y in
+    let h = subst (λ (r : List ℕ). Passed r t.at None u.at) p.0 step.says in
+    omega (arith, passing_all p.1 h.0 ps o)
+
 -- The bits after the first i bytes of a text are written; what is to come is the bits after the others.
-pub record Searching (s : List ℕ) (w : Word) (o₀ o : List ℕ) (i : ℕ) : Type 0 where
+pub record Searching (s : List ℕ) (w : Word) (o : List ℕ) (i : ℕ) : Type 0 where
   pub written : (ps : List Pattern) → ListOf s ps → take i o ++ ends_along ps (take i w) (drop i w) ≡ ends_along ps [] w
-  pub beyond : drop (length w) o ≡ drop (length w) o₀
 
-pub searching_none : (s : List ℕ) (w : Word) (o : List ℕ) → Searching s w o o 0
-searching_none s w o = record { written = λ ps h. refl; beyond = refl }
+pub searching_none : (s : List ℕ) (w : Word) (o : List ℕ) → Searching s w o 0
+searching_none s w o = record { written = λ ps h. refl }
 
-pub searching_more : {s : List ℕ} {w : Word} {o₀ o : List ℕ} {i : ℕ} (bits : ℕ) → i < length w → length w ≤ length o → BitsAfter s (take (i + 1 - 0) w) bits
-    → Searching s w o₀ o i → Searching s w o₀ (set o i bits) (i + 1)
+pub searching_more : {s : List ℕ} {w : Word} {o : List ℕ} {i : ℕ} (bits : ℕ) → i < length w → length w ≤ length o → BitsAfter s (take (i + 1) w) bits
+    → Searching s w o i → Searching s w (set o i bits) (i + 1)
 searching_more {s = s} {w = w} {o = o} {i = i} bits l room b h =
     let there : i < length o = omega arith in
-    let to : i + 1 - 0 ≡ i + 1 = omega arith in
     record {
       written = λ ps k.
-          let now : bits ≡ ends ps (take i w ++ get_or w i 0 ∷ []) = b ps k ∙ ap (λ n. ends ps (take n w)) to ∙ ap (ends ps) (take_more w i 0 l) in
+          let now : bits ≡ ends ps (take i w ++ get_or w i 0 ∷ []) = b ps k ∙ ap (ends ps) (take_more w i 0 l) in
           ap (λ r. r ++ ends_along ps (take (i + 1) w) (drop (i + 1) w)) (take_more_set o i bits there)
           ∙ append_assoc (take i o) (bits ∷ []) (ends_along ps (take (i + 1) w) (drop (i + 1) w))
           ∙ ap (λ r. take i o ++ (bits ∷ ends_along ps r (drop (i + 1) w))) (take_more w i 0 l)
           ∙ ap (λ x. take i o ++ (x ∷ ends_along ps (take i w ++ get_or w i 0 ∷ []) (drop (i + 1) w))) now
           ∙ ap (λ r. take i o ++ ends_along ps (take i w) r) (sym (drop_more w i 0 l))
           ∙ h.written ps k;
-      beyond = drop-set-lt (length w) o i bits l ∙ h.beyond;
     }
 
-pub searching_all : {s : List ℕ} {w : Word} {o₀ o : List ℕ} {i : ℕ} → i ≡ length w → Searching s w o₀ o i → (ps : List Pattern) → ListOf s ps → take (length w) o ≡ ends_along ps [] w
-searching_all {w = w} {o = o} {i = i} e h ps k =
-    ap (λ n. take n o) (sym e) ∙ sym (append-nil (take i o)) ∙ ap (λ r. take i o ++ ends_along ps (take i w) r) (sym (drop_all i w (omega arith))) ∙ h.written ps k
+-- all are written, and what lies behind is added
+pub searching_all : {s : List ℕ} {w : Word} {o : List ℕ} {i : ℕ} (rest : List ℕ) → length w ≤ i → length o ≡ length w → Searching s w o i → (ps : List Pattern) → ListOf s ps
+    → (take (length w) (o ++ rest) ≡ ends_along ps [] w) × (drop (length w) (o ++ rest) ≡ rest)
+searching_all {w = w} {o = o} {i = i} rest l long h ps k =
+    let all = sym (h.written ps k) ∙ ap (λ r. take i o ++ ends_along ps (take i w) r) (drop_all i w l) ∙ append-nil (take i o) ∙ take_all i o (omega arith) in
+    (take_at o rest (length w) long ∙ sym all, drop_at o rest (length w) long)

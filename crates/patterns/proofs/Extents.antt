@@ -186,10 +186,9 @@ pub record Reading (s : List ℕ) (at count : ℕ) : Type 0 where
   pub ps : List Pattern
   pub front : PartsAt s 0 ps at
   pub many : length ps ≡ count
-  pub few : count ≤ 32
 
 pub reading_none : (s : List ℕ) → Reading s 0 0
-reading_none s = record { ps = []; front = parts_none s 0 (omega arith); many = refl; few = omega arith }
+reading_none s = record { ps = []; front = parts_none s 0 (omega arith); many = refl }
 
 parts_push : {s : List ℕ} {at : ℕ} {ps : List Pattern} {mid : ℕ} {p : Pattern} {stop : ℕ} → PartsAt s at ps mid → PatternAt s mid p stop → PartsAt s at (ps ++ p ∷ []) stop
 parts_push {s = s} {ps = ps} {p = p} {stop = stop} a h = record {
@@ -198,8 +197,8 @@ parts_push {s = s} {ps = ps} {p = p} {stop = stop} a h = record {
   sounds = sound_append ps (p ∷ []) a.sounds (and_from (sound p) true h.sounds refl);
 }
 
-pub reading_more : {s : List ℕ} {at count stop : ℕ} → Reading s at count → count < 32 → PatternRead s at (Some stop) → Reading s stop (count + 1)
-reading_more r l (p, h) = record { ps = r.ps ++ p ∷ []; front = parts_push r.front h; many = length_push r.ps p ∙ ap (λ k. k + 1) r.many; few = omega arith }
+pub reading_more : {s : List ℕ} {at count stop : ℕ} → Reading s at count → PatternRead s at (Some stop) → Reading s stop (count + 1)
+reading_more r (p, h) = record { ps = r.ps ++ p ∷ []; front = parts_push r.front h; many = length_push r.ps p ∙ ap (λ k. k + 1) r.many }
 
 -- any list of these bytes goes on with patterns behind those that were read
 pub record Further (s : List ℕ) (at : ℕ) (ps qs : List Pattern) : Type 0 where
@@ -239,11 +238,17 @@ further s at ps front h qs o = ⊎_elim
 pub list_long : (s : List ℕ) → 4096 < length s → ListRead s None
 list_long s h = record { says = λ ps o. omega (arith, o.short); only = one_list }
 
-pub list_many : {s : List ℕ} {at : ℕ} → Reading s at 32 → at < length s → ListRead s None
+pub list_many : {s : List ℕ} {at count : ℕ} → Reading s at count → 32 < count → ListRead s None
 list_many {s = s} {at = at} r h = record {
-  says = λ qs o. let f = further s at r.ps r.front h qs o in omega (arith, ap length f.is, length-append r.ps (f.next ∷ f.later), r.many, o.few);
+  says = λ qs o.
+      let l = prefix_list qs r.ps [] (drop at s) (omega (arith, r.many, o.few)) o.sounds r.front.sounds (append-nil (write_list qs) ∙ o.written ∙ r.front.is) in
+      more l.0 qs o.few l.1 (omega (arith, ap length l.2, length-append (write_list l.0) (drop at s)));
   only = one_list;
 }
+  where
+    more : (rs qs : List Pattern) → length qs ≤ 32 → r.ps ≡ qs ++ rs → length (write_list rs) ≡ 0 → ⊥
+    more [] qs few e l = omega (arith, r.many, ap length e, length-append qs [])
+    more (p ∷ rs) qs few e l = omega (arith, write_long p, length-append (write p) (write_list rs))
 
 pub list_none : {s : List ℕ} {at count : ℕ} → Reading s at count → at < length s → PatternRead s at None → ListRead s None
 list_none {s = s} {at = at} r h fails = record {
@@ -251,14 +256,14 @@ list_none {s = s} {at = at} r h fails = record {
   only = one_list;
 }
 
-pub list_all : {s : List ℕ} {at count : ℕ} → length s ≤ 4096 → Reading s at count → length s ≤ at → ListRead s (Some count)
-list_all {s = s} {at = at} short r h = record {
+pub list_all : {s : List ℕ} {at count : ℕ} → length s ≤ 4096 → Reading s at count → count ≤ 32 → length s ≤ at → ListRead s (Some count)
+list_all {s = s} {at = at} short r few h = record {
   says = (
     r.ps,
     record {
       written = sym (r.front.is ∙ ap (λ w. write_list r.ps ++ w) (drop_all at s h) ∙ append-nil (write_list r.ps));
       sounds = r.front.sounds;
-      few = omega (arith, r.many, r.few);
+      few = omega (arith, r.many);
       short = short;
     },
     r.many,

@@ -1,14 +1,15 @@
 -- What the calls ensure. Assumes nothing.
-use Rattle.std.specs.Prelude.{◌≡◌, ℕ, ◌+◌, ◌<◌, Bool, true, List, [], length, take, drop, Some, None, Option}
+use Rattle.std.specs.Prelude.{◌≡◌, ℕ, ◌+◌, ◌<◌, ◌≤◌, Bool, true, List, [], length, take, drop, Some, None, Option, Ok, Err, Result, ⊤}
 use Rattle.std.proofs.Math.Option.{some}
 use Rattle.machines.specs.Words.{Word}
 use Rattle.machines.specs.Classes.{nth}
 use Rattle.patterns.specs.declared.node.Node.{Node}
-use Rattle.patterns.specs.declared.direct.Searched.{Searched}
-use Rattle.patterns.specs.declared.direct.Searched.TheVariants.{Read, NoList, Full}
+use Rattle.patterns.specs.declared.list.Patterns.{Patterns}
+use Rattle.patterns.specs.declared.direct.SearchError.{SearchError}
+use Rattle.patterns.specs.declared.direct.SearchError.TheVariants.{NoList, Full}
 use Rattle.patterns.specs.Patterns.{Pattern, seq, star, matches}
 use Rattle.patterns.specs.Meanings.{Meaning}
-use Rattle.patterns.specs.Lists.{write, sound, ListOf, OneList, Stands}
+use Rattle.patterns.specs.Lists.{write, write_list, sound, sound_list, ListOf, OneList, Stands}
 use Rattle.patterns.specs.Nodes.{node_bytes, node_sound}
 use Rattle.patterns.specs.Searching.{anywhere, ends, ends_along}
 
@@ -35,6 +36,21 @@ pub record SomePattern (s : List ℕ) (at : ℕ) : Type 0 where
   pub pattern : Pattern
   pub stop : ℕ
   pub here : PatternAt s at pattern stop
+
+-- what a walk over a list's patterns is given: patterns that stand one behind the other from a place to the end
+pub record SomePatterns (s : List ℕ) (at : ℕ) : Type 0 where
+  pub patterns : List Pattern
+  pub stand : Stands s at (write_list patterns) (length s)
+  pub sounds : sound_list patterns ≡ true
+
+-- a step of it: the place where a pattern begins, and on to where it ends; at the end of the list none
+abbrev pub Passed : List ℕ → ℕ → Option ℕ → ℕ → Type 0
+Passed s at (Some x) next = (at < length s) × (x ≡ at) × ((p : Pattern) (stop : ℕ) → PatternAt s at p stop → next ≡ stop)
+Passed s at None next = (length s ≤ at) × (next ≡ at)
+
+pub record PatternPassed (i : Patterns) (r : Option ℕ) (j : Patterns) : Type 0 where
+  pub list : j.list.now ≡ i.list.now
+  pub says : Passed i.list.now i.at r j.at
 
 -- deciding by definition whether what stands there matches a word: itself, with what stands further on behind it, or
 -- repeated
@@ -77,11 +93,11 @@ pub record MatchedPost (s : List ℕ) (i : ℕ) (w : Word) (r : Option Bool) : T
   pub meaning : Meaning
 
 -- searching by definition: the bits after each byte; a refusal writes nothing, and what lies behind the text's stays
-abbrev pub SearchedSays : List ℕ → Word → List ℕ → List ℕ → Searched → Type 0
-SearchedSays s w o o' Read = (ps : List Pattern) × ListOf s ps × (take (length w) o' ≡ ends_along ps [] w) × (drop (length w) o' ≡ drop (length w) o)
-SearchedSays s w o o' NoList = ((ps : List Pattern) → ListOf s ps → ⊥) × (o' ≡ o)
-SearchedSays s w o o' Full = ((ps : List Pattern) × ListOf s ps) × (length o < length w) × (o' ≡ o)
+abbrev pub SearchedSays : List ℕ → Word → List ℕ → List ℕ → Result ⊤ SearchError → Type 0
+SearchedSays s w o o' (Ok done) = (ps : List Pattern) × ListOf s ps × (take (length w) o' ≡ ends_along ps [] w) × (drop (length w) o' ≡ drop (length w) o)
+SearchedSays s w o o' (Err NoList) = ((ps : List Pattern) → ListOf s ps → ⊥) × (o' ≡ o)
+SearchedSays s w o o' (Err Full) = ((ps : List Pattern) × ListOf s ps) × (length o < length w) × (o' ≡ o)
 
-pub record SearchedPost (s : List ℕ) (w : Word) (o o' : List ℕ) (r : Searched) : Type 0 where
+pub record SearchedPost (s : List ℕ) (w : Word) (o o' : List ℕ) (r : Result ⊤ SearchError) : Type 0 where
   pub says : SearchedSays s w o o' r
   pub meaning : Meaning

@@ -3,14 +3,16 @@ ghost use Rattle.std.specs.Prelude.{◌≡◌, ℕ, ◌<◌, length};
 ghost use Rattle.patterns.specs.Patterns.{single};
 ghost use Rattle.patterns.specs.Promises.{SomePattern, SomeList, MatchesAt, SequenceMatches, StarMatches, EndsAt, BitsAfter, MatchedPost, SearchedPost};
 
-use crate::list::{pattern_behind, read_list};
+use crate::list::{Patterns, pattern_behind, read_list};
 use crate::node::{Node, read_node};
+use thiserror::Error;
 
-// What came of a search: the bits after each byte, no list, or too little room for them.
-#[derive(Clone, Copy)]
-pub enum Searched {
-    Read,
+// Why a text was not searched: the bytes are no list, or there is too little room for the bits.
+#[derive(Clone, Copy, PartialEq, Debug, Drop, Error)]
+pub enum SearchError {
+    #[error("no list of patterns")]
     NoList,
+    #[error("too little room for the bits")]
     Full,
 }
 
@@ -99,15 +101,11 @@ fn bits_after(list: &[u8], text: &[u8]) -> u32
     requires { SomeList list.now }
     ensures { BitsAfter list.now text.now result }
 {
-    let mut bits = 0u32;
-    let mut at = 0;
-    let mut index = 0u32;
-    while at < list.len() {
+    let mut bits = 0;
+    for (index, at) in Patterns::new(list).enumerate() {
         if ends_after(list, at, text) {
             bits |= 1 << index;
         }
-        at = pattern_behind(list, at);
-        index += 1;
     }
     bits
 }
@@ -116,31 +114,21 @@ fn bits_after(list: &[u8], text: &[u8]) -> u32
 pub fn matches(list: &[u8], index: usize, word: &[u8]) -> Option<bool>
     ensures { MatchedPost list.now index word.now result }
 {
-    let Some(count) = read_list(list) else {
-        return None;
-    };
-    if index >= count {
-        return None;
-    }
-    let mut at = 0;
-    for _before in 0..index {
-        at = pattern_behind(list, at);
-    }
+    read_list(list)?;
+    let at = Patterns::new(list).nth(index)?;
     Some(matches_at(list, at, word))
 }
 
 // Searches the text for the list's patterns: into `ends` go the bits after each byte.
-pub fn search(list: &[u8], text: &[u8], ends: &mut [u32]) -> Searched
+pub fn search(list: &[u8], text: &[u8], ends: &mut [u32]) -> Result<(), SearchError>
     ensures { SearchedPost list.now text.now ends.old ends.new result }
 {
-    let Some(_count) = read_list(list) else {
-        return Searched::NoList;
-    };
+    read_list(list).ok_or(SearchError::NoList)?;
     if ends.len() < text.len() {
-        return Searched::Full;
+        return Err(SearchError::Full);
     }
-    for i in 0..text.len() {
-        ends[i] = bits_after(list, &text[0..i + 1]);
+    for (i, bits) in ends[..text.len()].iter_mut().enumerate() {
+        *bits = bits_after(list, &text[..i + 1]);
     }
-    Searched::Read
+    Ok(())
 }

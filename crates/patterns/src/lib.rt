@@ -9,11 +9,9 @@ pub mod feeding;
 pub mod list;
 pub mod node;
 
-pub use feeding::{Fed, feed};
+pub use feeding::{FeedError, feed};
 
 // The worked examples of docs/PATTERNS.md, as facts about the definitions.
-pub fn worked_cases_stand() -> u8
+pub fn worked_cases_stand()
     ensures { WorkedCases }
-{
-    0
-}
+{}

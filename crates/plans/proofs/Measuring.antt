@@ -1,5 +1,5 @@
 -- Where patterns end and how many tables they need, from what is known of their parts. Assumes nothing.
-use Rattle.std.proofs.Common.{◌≡◌, ℕ, ◌+◌, ◌<◌, ◌≤◌, List, [], ◌∷◌, length, get_or, set, sym, refl, ap, ◌∙◌, subst, ⊎_elim, arith, get_or-set_other, get_or-set_same}
+use Rattle.std.proofs.Common.{◌≡◌, ℕ, ◌+◌, ◌<◌, ◌≤◌, List, [], ◌∷◌, Some, None, Option, length, get_or, set, sym, refl, ap, ◌∙◌, subst, ⊎_elim, arith, get_or-set_other, get_or-set_same}
 use Rattle.std.proofs.lemmas.List.{length-drop}
 use Rattle.std.proofs.lemmas.Bool.{cases_eq}
 use Rattle.patterns.specs.declared.node.Node.{Node}
@@ -8,8 +8,10 @@ use Rattle.patterns.specs.Nodes.{arity}
 use Rattle.patterns.specs.Promises.{NodeAt, PatternAt}
 use Rattle.patterns.proofs.Places.{stands_stop}
 use Rattle.patterns.proofs.Trees.{parts_of, parts_many, write_long}
-use Rattle.patterns.proofs.Extents.{PartsAt, parts_first, pattern_later, NodeTo, node_later, pattern_opened, end_none}
-use Rattle.plans.specs.Strahler.{higher, strahler, ExtentOf, Measured}
+use Rattle.patterns.proofs.Extents.{PartsAt, parts_first, pattern_later, NodeTo, node_later, pattern_opened, end_one, end_two_none}
+use Rattle.plans.specs.Strahler.{higher, strahler, ExtentOf, ExtentAt, Recorded, Measured}
+use Rattle.plans.specs.declared.extents.Extent.{Extent}
+use Rattle.plans.specs.declared.extents.Extents.{Extents}
 use Rattle.plans.proofs.Strahler.{twelve_tables}
 
 -- what a pattern needs by its parts
@@ -31,20 +33,17 @@ strahler_parts (star p) = refl
 few : {s : List ℕ} {at : ℕ} {p : Pattern} {stop : ℕ} → length s ≤ 4096 → PatternAt s at p stop → strahler p ≤ 12
 few {p = p} short h = twelve_tables p (omega (arith, stands_stop (write_long p) h.stands, h.stands.within))
 
--- no pattern where no node is
-pub extent_none : {s : List ℕ} {at : ℕ} (stop n : ℕ) → ((m : Node) → NodeAt s at m → ⊥) → ExtentOf s at stop n
-extent_none stop n fails = record { stops = λ p end h. absurd (end_none fails p end h); needs = λ p end h. absurd (end_none fails p end h) }
+-- what was written of a place; where nothing could be, none stands
+pub extent_written : {s : List ℕ} {from at : ℕ} (x : Extents) (e : Extent) → Measured s x.ends.now x.tables.now from → from ≤ at → Recorded x at (Some e) → ExtentOf s at e.end e.needed
+extent_written {at = at} x e M l r = record { stops = λ p end h. r.0 ∙ M.stops at l p end h; needs = λ p end h. r.1 ∙ M.needs at l p end h }
 
--- what was written of a place
-pub extent_written : {s ends tables : List ℕ} {from : ℕ} (at stop n : ℕ) → Measured s ends tables from → from ≤ at → (at < length s → stop ≡ get_or ends at 0) → (at < length s → n ≡ get_or tables at 0)
-    → ExtentOf s at stop n
-extent_written {s = s} at stop n M l e d = record {
-  stops = λ p end h. e (inside h) ∙ M.stops at l p end h;
-  needs = λ p end h. d (inside h) ∙ M.needs at l p end h;
-}
-  where
-    inside : {p : Pattern} {end : ℕ} → PatternAt s at p end → at < length s
-    inside h = omega (arith, pattern_later h)
+pub extent_past : {s : List ℕ} {at : ℕ} (x : Extents) → length s ≤ length x.ends.now → length s ≤ length x.tables.now → Recorded x at None → ExtentAt s at None
+extent_past x l m r p stop h = ⊎_elim (λ a. omega (arith, pattern_later h)) (λ a. omega (arith, pattern_later h)) r
+
+pub extent_read : {s : List ℕ} {from at : ℕ} (x : Extents) (r : Option Extent) → length s ≤ length x.ends.now → length s ≤ length x.tables.now → Measured s x.ends.now x.tables.now from → from ≤ at
+    → Recorded x at r → ExtentAt s at r
+extent_read x (Some e) l m M near r = extent_written x e M near r
+extent_read x None l m M near r = extent_past x l m r
 
 module _ {s : List ℕ} {at : ℕ} {m : Node} {next : ℕ} (r : NodeTo s at m next) where
   -- what is known of any parts that stand behind the node is known of the pattern
@@ -74,6 +73,24 @@ module _ {s : List ℕ} {at : ℕ} {m : Node} {next : ℕ} (r : NodeTo s at m ne
           (E.stops p f.mid f.first ∙ at_end f.first.stands.within f.others, E.needs p f.mid f.first)
       go (p ∷ q ∷ ps) end l h = absurd (omega arith)
 
+  pub extent_part : (x : Option Extent) → arity m ≡ 1 → ExtentAt s next x → ExtentAt s at x
+  extent_part (Some y) e E = extent_one e E
+  extent_part None e fails = end_one r None e fails
+
+  pub extent_first_none : arity m ≡ 2 → ExtentAt s next None → ExtentAt s at None
+  extent_first_none e fails = end_two_none r e fails
+
+  pub extent_second_none : {mid a : ℕ} → arity m ≡ 2 → ExtentOf s next mid a → ExtentAt s mid None → ExtentAt s at None
+  extent_second_none {mid = mid} e E fails p stop h = let o = pattern_opened r h in go (parts_of p) (parts_many p ∙ ap arity o.node ∙ e) o.parts
+    where
+      go : {stop : ℕ} (ps : List Pattern) → length ps ≡ 2 → PartsAt s next ps stop → ⊥
+      go [] l k = omega arith
+      go (p ∷ []) l k = omega arith
+      go (p ∷ q ∷ ps) l k =
+          let f = parts_first k in
+          let g = parts_first f.others in
+          fails q g.mid (subst (λ (i : ℕ). PatternAt s i q g.mid) (sym (E.stops p f.mid f.first)) g.first)
+
   -- the second part is looked up where the first one ends, if there is one
   pub extent_two : {mid stop a b n : ℕ} → length s ≤ 4096 → arity m ≡ 2 → ExtentOf s next mid a → (at < mid → ExtentOf s mid stop b) → (a ≤ 12 → n ≡ higher a b) → ExtentOf s at stop n
   extent_two {mid = mid} {stop = stop} {a = a} {b = b} {n = n} short e E F both = by_parts 2 stop n e go
@@ -100,6 +117,16 @@ measured_none s ends tables at l = record {
   stops = λ k h p stop g. absurd (omega (arith, pattern_later g));
   needs = λ k h p stop g. absurd (omega (arith, pattern_later g));
 }
+
+-- a place at which no pattern stands is left as it was
+pub measured_past : {s ends tables : List ℕ} {from at : ℕ} → Measured s ends tables from → from ≤ at + 1 → ExtentAt s at None → Measured s ends tables at
+measured_past {s = s} {at = at} M near fails = record {
+  stops = λ k l p stop h. ⊎_elim (λ (e : k ≡ at). absurd (here k e p stop h)) (λ (d : k ≡ at → ⊥). M.stops k (omega arith) p stop h) (cases_eq k at);
+  needs = λ k l p stop h. ⊎_elim (λ (e : k ≡ at). absurd (here k e p stop h)) (λ (d : k ≡ at → ⊥). M.needs k (omega arith) p stop h) (cases_eq k at);
+}
+  where
+    here : (k : ℕ) → k ≡ at → (p : Pattern) (stop : ℕ) → PatternAt s k p stop → ⊥
+    here k e p stop h = fails p stop (subst (λ (i : ℕ). PatternAt s i p stop) e h)
 
 pub measured_more : {s ends tables : List ℕ} {from at stop n : ℕ} → Measured s ends tables from → from ≤ at + 1 → ExtentOf s at stop n → at < length ends → at < length tables → Measured s (set ends at stop) (set tables at n) at
 measured_more {s = s} {ends = ends} {tables = tables} {from = from} {at = at} {stop = stop} {n = n} M near E l m = record {

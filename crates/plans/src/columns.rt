@@ -23,10 +23,9 @@ fn mark_cuts(list: &[u8], cuts: &mut [u32])
 {
     cuts.fill(0);
     for at in 0..list.len() {
-        let Some(node) = read_node(list, at) else {
-            continue;
-        };
-        mark(node, cuts);
+        if let Some(node) = read_node(list, at) {
+            mark(node, cuts);
+        }
     }
 }
 
@@ -40,6 +39,7 @@ fn number_bytes(cuts: &[u32], column: &mut [u32], least: &mut [u32]) -> usize
     let mut j = 0;
     column[0] = 0;
     least[0] = 0;
+    // By its number, as a byte names a place in all three.
     for b in 1..256 {
         if cuts[b] != 0 {
             j += 1;

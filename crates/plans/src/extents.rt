@@ -1,13 +1,32 @@
 // Where the pattern at each place of a list ends, and how many tables working it out needs.
-ghost use Rattle.std.specs.Prelude.{◌≡◌, ◌+◌, ◌<◌, ◌≤◌, length, slice_index};
-ghost use Rattle.plans.specs.Strahler.{higher, ExtentOf, Measured, TwelveTables};
+ghost use Rattle.std.specs.Prelude.{◌≡◌, ◌+◌, ◌<◌, ◌≤◌, length};
+ghost use Rattle.plans.specs.Strahler.{higher, ExtentAt, Recorded, Measured, TwelveTables};
 
 use patterns::node::read_node;
 
+// Where a pattern ends, and how many tables it needs.
 #[derive(Clone, Copy)]
-struct Extent {
-    end: u32,
-    needed: u32,
+pub struct Extent {
+    pub end: u32,
+    pub needed: u32,
+}
+
+// The extents that were written for a list's places: where patterns end, and how many tables they need.
+#[derive(Clone, Copy)]
+pub struct Extents<'a> {
+    pub ends: &'a [u32],
+    pub tables: &'a [u32],
+}
+
+impl<'a> Extents<'a> {
+    // What was written for a place.
+    pub fn get(self, at: usize) -> Option<Extent>
+        ensures { Recorded self.entry at result }
+    {
+        let end = *self.ends.get(at)?;
+        let needed = *self.tables.get(at)?;
+        Some(Extent { end, needed })
+    }
 }
 
 // The tables that two parts need. The sum is never cut off where patterns stand, as none needs more than twelve; elsewhere any
@@ -24,47 +43,29 @@ fn of_both(first: u32, second: u32) -> u32
     }
 }
 
-// What was written for a place. Behind the last place of the list nothing was, and no pattern stands.
-fn recorded(list: &[u8], ends: &[u32], tables: &[u32], at: usize) -> Extent
-    requires ends { length list.now ≤ length ends.now }
-    requires tables { length list.now ≤ length tables.now }
-    ensures end { at < length list.now → result.end ≡ slice_index ends.now at }
-    ensures needed { at < length list.now → result.needed ≡ slice_index tables.now at }
-{
-    if at >= list.len() {
-        return Extent { end: 0, needed: 0 };
-    }
-    Extent {
-        end: ends[at],
-        needed: tables[at],
-    }
-}
-
 // The extent of the pattern at a place, from those that were written for the places behind it.
-fn extent_at(list: &[u8], ends: &[u32], tables: &[u32], at: usize) -> Extent
+fn extent_at(list: &[u8], extents: Extents<'_>, at: usize) -> Option<Extent>
     requires short { length list.now ≤ 4096 }
-    requires ends { length list.now ≤ length ends.now }
-    requires tables { length list.now ≤ length tables.now }
-    requires behind { Measured list.now ends.now tables.now (at + 1) }
-    ensures { ExtentOf list.now at result.end result.needed }
+    requires ends { length list.now ≤ length extents.ends.now }
+    requires tables { length list.now ≤ length extents.tables.now }
+    requires behind { Measured list.now extents.ends.now extents.tables.now (at + 1) }
+    ensures { ExtentAt list.now at result }
 {
-    let Some(node) = read_node(list, at) else {
-        return Extent { end: 0, needed: 0 };
-    };
+    let node = read_node(list, at)?;
     let next = at + node.width();
     match node.arity() {
-        0 => Extent {
+        0 => Some(Extent {
             end: next as u32,
             needed: 1,
-        },
-        1 => recorded(list, ends, tables, next),
+        }),
+        1 => extents.get(next),
         _ => {
-            let first = recorded(list, ends, tables, next);
-            let second = recorded(list, ends, tables, first.end as usize);
-            Extent {
+            let first = extents.get(next)?;
+            let second = extents.get(first.end as usize)?;
+            Some(Extent {
                 end: second.end,
                 needed: of_both(first.needed, second.needed),
-            }
+            })
         }
     }
 }
@@ -77,15 +78,14 @@ pub fn measure(list: &[u8], ends: &mut [u32], tables: &mut [u32])
     ensures { Measured list.now ends.new tables.new 0 }
 {
     for at in (0..list.len()).rev() {
-        let here = extent_at(list, ends, tables, at);
-        ends[at] = here.end;
-        tables[at] = here.needed;
+        if let Some(here) = extent_at(list, Extents { ends, tables }, at) {
+            ends[at] = here.end;
+            tables[at] = here.needed;
+        }
     }
 }
 
 // No pattern of a list needs more.
-pub fn twelve_tables_suffice() -> u8
+pub fn twelve_tables_suffice()
     ensures { TwelveTables }
-{
-    0
-}
+{}

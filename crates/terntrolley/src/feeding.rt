@@ -5,20 +5,20 @@ ghost use Rattle.terntrolley.specs.Codes.{fed_code, fed_next, FedCoded, Validate
 
 use machines::table::{Row, Table, is_table};
 use patterns::feeding::feed_valid;
-use patterns::{Fed, feed};
+use patterns::{FeedError, feed};
 
 // The code of an answer; the row, if there is one, goes to `next`.
-fn hand_out(fed: Fed, next: &mut usize) -> u32
+fn hand_out(fed: Result<Row, FeedError>, next: &mut usize) -> u32
     ensures code { result ≡ fed_code fed }
     ensures next { next.new ≡ fed_next next.old fed }
 {
     match fed {
-        Fed::Read(row) => {
-            *next = row;
+        Ok(row) => {
+            *next = row.0;
             0
         }
-        Fed::NoTable => 1,
-        Fed::Full => 2,
+        Err(FeedError::NoTable) => 1,
+        Err(FeedError::Full) => 2,
     }
 }
 

@@ -6,4 +6,4 @@ pub returns-then-ends-piece : goal.returns-then-ends-piece
 returns-then-ends-piece c = (inside_sound _ _ c.args.table.long c.args.table.inside, c.requires, c.if-ends-piece.true, refl)
 
 pub returns : goal.returns
-returns c = (inside_sound _ _ c.args.table.long c.args.table.inside, c.requires, c.feed-after.ensures.after, c.feed-after.ensures.bits, c.feed-after.ensures.rest)
+returns c = (inside_sound _ _ c.args.table.long c.args.table.inside, c.requires, c.feed.ensures.after, c.feed.ensures.bits, c.feed.ensures.rest)

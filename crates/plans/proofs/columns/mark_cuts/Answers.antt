@@ -1,19 +1,19 @@
-use Rattle.std.proofs.Common.{◌≡◌, ℕ, ◌+◌, length, sym, subst, arith}
+use Rattle.std.proofs.Common.{◌≡◌, ℕ, ◌+◌, length, sym, ◌∙◌, subst, arith}
 use Rattle.plans.specs.Dividing.{Marked}
 use Rattle.plans.proofs.Dividing.{marked_none, marked_past, marked_more}
 use Rattle.plans.proofs.columns.mark_cuts.Goals as goal
+use Rattle.plans.proofs.columns.mark_cuts.Goals.{in-Some, in_default}
 
 pub loop-at-init : goal.loop-at-init
 loop-at-init c = marked_none _ _
 
 pub loop-at-preserved : goal.loop-at-preserved
-loop-at-preserved c =
-    subst (λ z. Marked c.args.list.now z (c.loop-at.at + 1)) (sym c.mark.ensures) (marked_more c.loop-at.cuts (omega arith) c.loop-at.invariant c.in-Some.ensures)
+loop-at-preserved c = elim c.match-read_node.branch [
+  | in-Some w ↦ subst (λ z. Marked c.args.list.now z (c.loop-at.at + 1)) (sym (w.cuts-is ∙ w.mark.ensures)) (marked_more c.loop-at.cuts (omega arith) c.loop-at.invariant w.in-Some.ensures)
+  | in_default w ↦ subst (λ z. Marked c.args.list.now z (c.loop-at.at + 1)) (sym w.cuts-is) (marked_past c.loop-at.invariant w.in_default.ensures)
+]
 
 pub returns : goal.returns
 returns c =
     let e : c.loop-at.at ≡ length c.args.list.now = omega arith in
     subst (λ (n : ℕ). Marked c.args.list.now c.loop-at.cuts n) e c.loop-at.invariant
-
-pub loop-at-preserved-in_default : goal.loop-at-preserved-in_default
-loop-at-preserved-in_default c = marked_past c.loop-at.invariant c.in_default.ensures

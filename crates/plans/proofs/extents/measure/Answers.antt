@@ -1,9 +1,9 @@
 use Rattle.std.proofs.Common.{arith}
-use Rattle.plans.proofs.Measuring.{measured_none, measured_more}
+use Rattle.plans.proofs.Measuring.{measured_none, measured_past, measured_more}
 use Rattle.plans.proofs.extents.measure.Goals as goal
 
 pub loop-at-init : goal.loop-at-init
 loop-at-init c = measured_none _ _ _ _ (omega arith)
 
 pub loop-at-preserved : goal.loop-at-preserved
-loop-at-preserved c = measured_more c.loop-at.invariant (omega arith) c.extent_at-here.ensures (omega arith) (omega arith)
+loop-at-preserved c = measured_past c.loop-at.invariant (omega arith) c.in_default.ensures
