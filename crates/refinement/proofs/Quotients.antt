@@ -1,5 +1,6 @@
 -- Blocks numbered by their least rows, and the machine of the blocks: it is the least one. Assumes nothing.
-use Rattle.std.proofs.Common.{◌≡◌, ℕ, ◌+◌, ◌*◌, ◌<◌, ◌≤◌, ◌≢◌, List, [], ◌∷◌, length, get_or, set, sym, refl, ap, ◌∙◌, subst, ⊎_elim, arith, get_or-set_other, get_or-set_same, below_more}
+use Rattle.std.proofs.Common.{◌≡◌, ℕ, ◌+◌, ◌*◌, ◌<◌, ◌≤◌, ◌≢◌, List, [], ◌∷◌, length, take, set, sym, refl, ap, ◌∙◌, subst, ⊎_elim, arith, get_or-set_other, get_or-set_same, below_more}
+use Rattle.std.proofs.lemmas.List.{get_or-take}
 use Rattle.std.proofs.lemmas.Bool.{cases_eq, cases_order}
 use Rattle.machines.specs.Words.{Word, Bytes}
 use Rattle.machines.specs.Machines.{run}
@@ -7,20 +8,10 @@ use Rattle.machines.specs.Columns.{Columns, cell, shown, leads}
 use Rattle.machines.specs.Minimal.{code, Told, Gives, First, Numbered, Minimal}
 use Rattle.machines.specs.Inside.{Inside}
 use Rattle.refinement.specs.Refining.{at, Refined}
-use Rattle.refinement.specs.Joining.{Firsts, Numbering, Image, Put, Joined}
+use Rattle.refinement.specs.Joining.{Firsts, Numbering, Image, Joined}
 
 two : (k : ℕ) (A : ℕ → ℕ → Type 0) → ((i j : ℕ) → i < k → j < k → A i j) → ((i : ℕ) → i < k → A i k) → ((j : ℕ) → j < k → A k j) → A k k → (i j : ℕ) → i < k + 1 → j < k + 1 → A i j
 two k A a b c d i j l m = below_more (λ i. A i j) k (λ i l. below_more (A i) k (λ j m. a i j l m) (b i l) j m) (below_more (A k) k c d j m) i l
-
-pub numbering_none : (B N : ℕ → ℕ) → Numbering 0 0 B N
-numbering_none B N = record {
-  few = omega arith;
-  within = λ i l. absurd (omega arith);
-  same = λ i j l m e. absurd (omega arith);
-  told = λ i j l m e. absurd (omega arith);
-  some = λ a l. absurd (omega arith);
-  up = λ i j l m e d. absurd (omega arith);
-}
 
 module _ (K : ℕ) (B : ℕ → ℕ) (F : Firsts K B) (k n : ℕ) (s : List ℕ) (in_rows : k < K) (in_List : k < length s) (M : Numbering k n B (at s)) where
   kept : (v i : ℕ) → i < k → at (set s k v) i ≡ at s i
@@ -198,53 +189,18 @@ module _ (c k n : ℕ) (t u : List ℕ) (B N : ℕ → ℕ) (S : Inside c k t) (
         minimal k n (leads column t) (leads column u) (shown t) (shown u) B N T M R.low (R.told column least C) (shows_all column least C) (on_all column least C) f gives;
   }
 
--- a row written, cell by cell
-pub put_start : (t u : List ℕ) (N : ℕ → ℕ) (i : ℕ) {v : ℕ} → v ≡ shown t i → 257 * N i + 257 ≤ length u → Put t (set u (257 * N i) v) (set u (257 * N i) v) N i 0
-put_start t u N i {v} e h = record {
-  shows = get_or-set_same u (257 * N i) v 0 (omega arith) ∙ e;
-  on = λ a l. absurd (omega arith);
-  before = λ p l. refl;
-  behind = λ p l. refl;
-}
-
-pub put_more : (t u x : List ℕ) (N : ℕ → ℕ) (i b : ℕ) {y : ℕ} → y ≡ cell t i b → b < 256 → 257 * N i + 257 ≤ length x → Put t u x N i b → Put t u (set x (257 * N i + (1 + b)) (N y)) N i (b + 1)
-put_more t u x N i b {y} e m h P = record {
-  shows = other (257 * N i) (omega arith) ∙ P.shows;
-  on = below_more (λ a. cell (set x (257 * N i + (1 + b)) (N y)) (N i) a ≡ N (cell t i a)) b
-      (λ a l. other (257 * N i + (1 + a)) (omega arith) ∙ P.on a l)
-      (get_or-set_same x (257 * N i + (1 + b)) (N y) 0 (omega arith) ∙ ap N e);
-  before = λ p l. other p (omega arith) ∙ P.before p l;
-  behind = λ p l. other p (omega arith) ∙ P.behind p l;
+-- blocks that stand at the front of a longer list
+pub refined_front : {c k n : ℕ} {t : List ℕ} (b : List ℕ) → n ≡ k → Refined c k t (at b) → Refined c k t (at (take n b))
+refined_front {c} {k} {n} {t} b e R = record {
+  low = λ i l. omega (arith, same i l, R.low i l);
+  again = λ i l. ap D (same i l) ∙ same (at b i) (omega (arith, R.low i l)) ∙ R.again i l ∙ sym (same i l);
+  like = λ column least C i j l m h. R.like column least C i j l m (sym (same i l) ∙ h ∙ same j m);
+  same = λ column least C i j l m h. same i l ∙ R.same column least C i j l m h ∙ sym (same j m);
+  told = λ column least C i j l m ne. R.told column least C i j l m (λ h. ne (same i l ∙ h ∙ sym (same j m)));
 }
   where
-    other : (p : ℕ) → (p ≡ 257 * N i + (1 + b) → ⊥) → get_or (set x (257 * N i + (1 + b)) (N y)) p 0 ≡ get_or x p 0
-    other p ne = get_or-set_other x (257 * N i + (1 + b)) p (N y) 0 ne
+    D : ℕ → ℕ
+    D = at (take n b)
 
-pub put_end : (t u x : List ℕ) (N : ℕ → ℕ) (i v b c : ℕ) → b ≡ c → Put t (set u (257 * N i) v) x N i b → Put t u x N i c
-put_end t u x N i v b c e P = record {
-  shows = P.shows;
-  on = λ a l. P.on a (omega arith);
-  before = λ p l. let ne : p ≢ 257 * N i = omega arith in P.before p l ∙ get_or-set_other u (257 * N i) p v 0 ne;
-  behind = λ p l. let ne : p ≢ 257 * N i = omega arith in P.behind p l ∙ get_or-set_other u (257 * N i) p v 0 ne;
-}
-
--- the rows of the blocks whose least row is below k are written
-abbrev pub Images : ℕ → ℕ → List ℕ → List ℕ → (ℕ → ℕ) → (ℕ → ℕ) → Type 0
-Images c k t u B N = (i : ℕ) → i < k → B i ≡ i → Image c t u N i
-
-pub images_none : (c : ℕ) (t u : List ℕ) (B N : ℕ → ℕ) → Images c 0 t u B N
-images_none c t u B N i l e = absurd (omega arith)
-
-pub images_more : (c K n k : ℕ) (t u v : List ℕ) (B N : ℕ → ℕ) → c ≤ 256 → Numbering K n B N → k < K → B k ≡ k → Put t u v N k c → Images c k t u B N → Images c (k + 1) t v B N
-images_more c K n k t u v B N few M in_rows e P I =
-    below_more (λ i. B i ≡ i → Image c t v N i) k
-    (λ i l d.
-    let less = M.up i k l in_rows d e in
-    record {
-      shows = P.before (257 * N i) (omega arith) ∙ (I i l d).shows;
-      on = λ a m. P.before (257 * N i + (1 + a)) (omega arith) ∙ (I i l d).on a m;
-    })
-    (λ d. record { shows = P.shows; on = P.on })
-
-pub images_past : (c k : ℕ) (t u : List ℕ) (B N : ℕ → ℕ) → (B k ≡ k → ⊥) → Images c k t u B N → Images c (k + 1) t u B N
-images_past c k t u B N ne I = below_more (λ i. B i ≡ i → Image c t u N i) k I (λ e. absurd (ne e))
+    same : (i : ℕ) → i < k → D i ≡ at b i
+    same i l = get_or-take n b i 0 (omega arith)

@@ -1,9 +1,8 @@
 -- Rounds of a refinement: each tells more rows apart by words, and one that changes nothing is the last. Assumes nothing.
-use Rattle.std.proofs.Common.{◌≡◌, ℕ, suc, ◌+◌, ◌*◌, ◌<◌, ◌≤◌, ◌≢◌, ◌⊎◌, Bool, true, false, MatchBool, Some, None, Option, MatchOption, List, [], ◌∷◌, length, get_or, set, replicate, sum, sym, refl, ap, ◌∙◌, subst, inl, inr, ⊎_elim, arith, get_or-set_other, get_or-set_same}
+use Rattle.std.proofs.Common.{◌≡◌, ℕ, suc, ◌+◌, ◌*◌, ◌<◌, ◌≤◌, ◌≢◌, ◌⊎◌, Bool, true, false, MatchBool, Some, None, Option, MatchOption, List, [], ◌∷◌, length, get_or, set, sum, sym, refl, ap, ◌∙◌, subst, inl, inr, ⊎_elim, arith, get_or-set_other, get_or-set_same}
 use Rattle.std.specs.List.{AllByRecursion as All, AllWithin, HoldsAt, zip}
 use Rattle.std.specs.Option.{unwrap_or}
 use Rattle.std.proofs.lemmas.Slice.Zip.{length-zip, get_or-zip}
-use Rattle.std.proofs.lemmas.List.{get_or-replicate}
 use Rattle.std.proofs.lemmas.List.Sums.{sum_by-cons}
 use Rattle.std.proofs.ByRecursion.{sum_by_le}
 use Rattle.std.proofs.lemmas.Bool.{cases_eq, cases_lt, cases_order}
@@ -14,15 +13,6 @@ use Rattle.machines.specs.Minimal.{Told}
 use Rattle.machines.specs.Inside.{Inside}
 use Rattle.refinement.proofs.RowCells.{row_cells, length-row_cells, at_cell}
 use Rattle.refinement.specs.Refining.{at, Same, Other, Found, Blocks, Refined}
-
-pub blocks_start : (c k : ℕ) (t s : List ℕ) → s ≡ replicate k 0 → Blocks c k t (at s)
-blocks_start c k t s e = record {
-  low = λ i l. omega (arith, zero_at i l);
-  told = λ column least C i j l m d. absurd (d (zero_at i l ∙ sym (zero_at j m)));
-}
-  where
-    zero_at : (i : ℕ) → i < k → at s i ≡ 0
-    zero_at i l = ap (λ z. get_or z i 0) e ∙ get_or-replicate k i 0 0 l
 
 -- the search for an alike row begins at the block's least row, and if it finds none below the row, the row is alike to itself
 pub found_alike : {c k f : ℕ} {t : List ℕ} {B : ℕ → ℕ} {i : ℕ} (d : Option ℕ) → ((r : ℕ) → r < k → B r ≤ r) → i < k → f ≡ B i

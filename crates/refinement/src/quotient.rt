@@ -6,16 +6,15 @@ ghost use Rattle.refinement.specs.Joining.{Firsts, Numbering, Put, Joined};
 use machines::raw::RawTable;
 
 // Numbers the blocks by their least rows.
-fn number(rows: usize, block: &[u32], names: &mut [u32]) -> usize
-    requires few { rows < 2 ^ 32 }
-    requires block { rows ≤ length block.now }
-    requires names { rows ≤ length names.old }
-    requires firsts { Firsts rows (at block.now) }
-    ensures { Numbering rows result (at block.now) (at names.new) }
+fn number(block: &[u32], names: &mut [u32]) -> usize
+    requires few { length block.now < 2 ^ 32 }
+    requires names { length block.now ≤ length names.old }
+    requires firsts { Firsts (length block.now) (at block.now) }
+    ensures { Numbering (length block.now) result (at block.now) (at names.new) }
 {
-    let mut count: usize = 0;
-    for i in 0..rows {
-        let first = block[i] as usize;
+    let mut count = 0;
+    for (i, first) in block.iter().enumerate() {
+        let first = *first as usize;
         if first == i {
             names[i] = count as u32;
             count += 1;
@@ -49,10 +48,10 @@ pub fn quotient(raw: RawTable<'_>, block: &[u32], names: &mut [u32], table: &mut
     requires table { 257 * raw.rows ≤ length table.old }
     ensures { Joined raw.entry.columns raw.entry.rows result raw.entry.words.now table.new }
 {
-    let rows = raw.rows();
-    let count = number(rows, block, names);
-    for i in 0..rows {
-        if block[i] as usize == i {
+    let block = &block[..raw.rows()];
+    let count = number(block, names);
+    for (i, first) in block.iter().enumerate() {
+        if *first as usize == i {
             put_row(raw, i, names, table);
         }
     }

@@ -17,7 +17,7 @@ fn alike(table: RawTable<'_>, block: &[u32], i: usize, j: usize) -> bool
             .cells(i)
             .iter()
             .zip(table.cells(j))
-            .all(|(one, other)| block[*one as usize] == block[*other as usize])
+            .all(|(x, y)| block[*x as usize] == block[*y as usize])
 }
 
 // The least row that is alike to row i. None is below the least row of i's block, so the search begins there.

@@ -21,7 +21,7 @@ returns-then-shown c =
       | then-block-i w ↦ alike_says B _ c.args.table.inside c.requires.i c.requires.j w.if-block-i.true
           (let e : w.shown.result ≡ w.shown-then-block-i.result = grind (arith, nat_tests) in sym w.shown.ensures ∙ e ∙ w.shown-then-block-i.ensures)
           (cases_from_all c.all.new.self _ _ (λ (p : ℕ × ℕ). B p.0 ≡ B p.1) (λ p. B p.0 ≢ B p.1) c.all.ensures.ran
-              (YieldsList-from_zip {s = c.zip.result} (YieldsList-from_slice _ (cc)) (YieldsList-from_slice _ (cc)))
-              (λ x q k. search (rules, tests)) (λ x q k. search (rules, tests)))
+          (YieldsList-from_zip {s = c.zip.result} (YieldsList-from_slice _ (cc)) (YieldsList-from_slice _ (cc)))
+          (λ x q k. search (rules, tests)) (λ x q k. search (rules, tests)))
       | else-block-i w ↦ absurd (let e : c.if-block-i.value ≡ false = grind (arith, nat_tests) in cc)
     ]

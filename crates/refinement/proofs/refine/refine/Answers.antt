@@ -1,12 +1,9 @@
-use Rattle.std.proofs.Common.{◌≡◌, ℕ, ◌<◌, replicate, sum, sym, ap, ◌∙◌, subst, ⊎_elim, arith}
+use Rattle.std.proofs.Common.{◌≡◌, ◌<◌, sum, sym, ap, subst, ⊎_elim, arith}
 use Rattle.std.proofs.lemmas.Slice.Eq.{slice_eq-Decides}
 use Rattle.std.proofs.lemmas.Bool.Decides.{Decides-eqb}
 use Rattle.refinement.specs.Refining.{at, Blocks}
-use Rattle.refinement.proofs.Rounds.{Finer, blocks_start, finer_more, blocks_more, blocks_grow, refined, sum_small, sum_grows}
+use Rattle.refinement.proofs.Rounds.{Finer, finer_more, blocks_more, blocks_grow, refined, sum_small, sum_grows}
 use Rattle.refinement.proofs.refine.refine.Goals as goal
-
-pub rounds-init : goal.rounds-init
-rounds-init c = blocks_start _ _ _ _ (c.fill.ensures.after (λ y e. e) ∙ ap (λ z. replicate z 0) c.requires.block)
 
 pub loop-i-preserved : goal.loop-i-preserved
 loop-i-preserved c = finer_more _ _ _ _ _ _ (omega arith) c.loop-i.invariant c.least_alike.ensures
