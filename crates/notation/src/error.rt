@@ -1,6 +1,4 @@
 // What a text can lack, and where.
-ghost use Rattle.notation.specs.declared.error.Fault.TheVariants.{OutOfMemory};
-
 use std::alloc::{AllocError, AllocFailed};
 use thiserror::Error;
 
@@ -66,6 +64,7 @@ pub enum Fault {
     OutOfMemory,
 }
 
+// By hand: thiserror's #[from] needs a variant that holds the error, and texts that nobody would print.
 impl From<AllocError> for Fault {
     fn from(_e: AllocError) -> Fault {
         Fault::OutOfMemory
