@@ -1,7 +1,10 @@
 -- Names and patterns, line after line. Assumes nothing.
-use Rattle.std.proofs.Common.{◌≡◌, ℕ, ◌+◌, ◌<◌, ◌≤◌, Bool, true, false, List, [], ◌∷◌, ◌++◌, length, get_or, drop, Decides, sym, refl, ap, ◌∙◌, subst, add-one, arith, drop-cons}
-use Rattle.std.proofs.lemmas.List.{append-nil, length_push, drop_all}
-use Rattle.std.proofs.lemmas.Bool.{and_from}
+use Rattle.std.proofs.Common.{◌≡◌, ℕ, ◌+◌, ◌<◌, Bool, true, false, List, [], ◌∷◌, ◌++◌, length, Decides, MatchBool, sym, refl, ap, ◌∙◌, subst, arith}
+use Rattle.std.specs.List.{All, AllWithin, HoldsAt}
+use Rattle.std.proofs.lemmas.List.{append-nil, length_push}
+use Rattle.std.proofs.lemmas.List.Elements.{All-from_all_within}
+use Rattle.std.proofs.lemmas.Bool.{and_from, false≢true}
+use native.Mathlib.Numerals.{unary_clauses}
 use Rattle.patterns.specs.Lists.{write, write_list, sound}
 use Rattle.patterns.proofs.Trees.{write_append, sound_append}
 use Rattle.notation.specs.declared.scan.Span.{Span}
@@ -20,15 +23,15 @@ pub distinct_more : (xs : List ℕ) (ns : List Span) (n : Span) → Distinct xs 
 distinct_more xs [] n h new = (tt, tt)
 distinct_more xs (m ∷ ns) n h new = (each_more (Unlike xs m) ns n h.0 (λ e. new.0 (sym e)), distinct_more xs ns n h.1 new.1)
 
--- the spans from a place on
-pub each_next : (P : Span → Type 0) (ns : List Span) (i : ℕ) (d : Span) → i < length ns → Each P (drop i ns) → P (get_or ns i d) × Each P (drop (i + 1) ns)
-each_next P ns i d l h = let split : drop i ns ≡ get_or ns i d ∷ drop (i + 1) ns = rw (add-one, drop-cons ns i d) in subst (Each P) split h
+-- what holds of each by its place
+each_of : (P Q : Span → Type 0) (ns : List Span) → All (λ n. P n → Q n) ns → Each P ns → Each Q ns
+each_of P Q [] h w = tt
+each_of P Q (n ∷ ns) h w = (h 0 n (omega arith) w.0, each_of P Q ns (λ k d l. simp unary_clauses at (h (k + 1) d (simp unary_clauses (omega (arith, l))))) w.1)
 
-pub each_back : (P : Span → Type 0) (ns : List Span) (i : ℕ) (d : Span) → i < length ns → P (get_or ns i d) → Each P (drop (i + 1) ns) → Each P (drop i ns)
-each_back P ns i d l here h = let split : drop i ns ≡ get_or ns i d ∷ drop (i + 1) ns = rw (add-one, drop-cons ns i d) in subst (Each P) (sym split) (here, h)
-
-pub each_end : (P : Span → Type 0) (ns : List Span) (i : ℕ) → length ns ≤ i → Each P (drop i ns)
-each_end P ns i l = subst (Each P) (sym (drop_all i ns l)) tt
+-- a search for a span that found none
+pub each_all : (P Q : Span → Type 0) (r : Bool) (ns : List Span) → r ≡ false → MatchBool r ((k : ℕ) × (k < length ns) × HoldsAt (λ _. Unit {0}) ns k) (AllWithin (λ n. P n → Q n) ns 0 (length ns)) → Each P ns → Each Q ns
+each_all P Q false ns e h w = each_of P Q ns (All-from_all_within (λ n. P n → Q n) ns h) w
+each_all P Q true ns e h w = absurd (false≢true (sym e))
 
 -- no line yet, and one more
 pub notated_none : (xs : List ℕ) → Notated xs [] []

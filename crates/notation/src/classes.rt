@@ -1,11 +1,11 @@
 // Classes, as [a-z0-9] and [^"\n]: sets of single bytes, written as the fewest ranges in order.
-ghost use Rattle.std.specs.Prelude.{◌<◌, ◌≤◌, IfSome, OnOk};
+ghost use Rattle.std.specs.Prelude.{◌<◌, ◌≤◌, IfOk, IfSome, OnOk};
 ghost use Rattle.notation.specs.Reading.{Past};
 ghost use Rattle.notation.specs.Writing.{Added, Parsed};
 
 use crate::error::{Expected, Fault};
 use crate::scan::Reader;
-use crate::writing::{NOTHING, UNION};
+use patterns::node::Node;
 
 // Which bytes a class has.
 #[derive(Clone, Copy)]
@@ -20,17 +20,10 @@ impl Class {
         }
     }
 
-    // Takes in each byte from `low` to `high`.
-    fn add(&mut self, low: u8, high: u8) {
-        for byte in low..=high {
-            self.members[byte as usize] = true;
-        }
-    }
-
     // Takes in what it lacked, and nothing else.
     fn invert(&mut self) {
-        for byte in 0..256 {
-            self.members[byte] = !self.members[byte];
+        for member in &mut self.members {
+            *member = !*member;
         }
     }
 
@@ -38,23 +31,17 @@ impl Class {
     fn next(&self, from: usize) -> Option<u8>
         ensures { IfSome result (λ b. (from ≤ b) × (b < 256)) }
     {
-        for byte in from..256 {
-            if self.members[byte] {
-                return Some(byte as u8);
-            }
-        }
-        None
+        let byte = (from..256).find(|byte| self.members[*byte])?;
+        Some(byte as u8)
     }
 
     // The last byte up to which each byte from `low` on is a member.
     fn run_end(&self, low: u8) -> u8
         ensures { (low ≤ result) × (result < 256) }
     {
-        let mut high = low;
-        while high < 255 && self.members[high as usize + 1] {
-            high += 1;
-        }
-        high
+        let behind = &self.members[low as usize + 1..];
+        let more = behind.iter().take_while(|member| **member).count();
+        low + more as u8
     }
 }
 
@@ -65,7 +52,7 @@ impl Reader<'_> {
     {
         let class = self.class_set()?;
         let Some(low) = class.next(0) else {
-            return self.put(list, NOTHING);
+            return self.put(list, Node::Nothing);
         };
         self.put_runs(list, &class, low)
     }
@@ -102,22 +89,32 @@ impl Reader<'_> {
         ensures { OnOk result (Past self.old self.new) }
     {
         let low = self.class_byte()?;
-        if !self.step_over(b'-') {
-            class.add(low, low);
-            return Ok(());
-        }
+        let high = if self.step_over(b'-') {
+            self.range_end(low)?
+        } else {
+            low
+        };
+        class.members[low as usize..=high as usize].fill(true);
+        Ok(())
+    }
+
+    // The byte behind the dash, which may not be below the one before it.
+    fn range_end(&mut self, low: u8) -> Result<u8, Fault>
+        ensures past { OnOk result (Past self.old self.new) }
+        ensures high { IfOk result (λ high. (low ≤ high) × (high < 256)) }
+    {
         let place = self.at;
         let high = self.class_byte()?;
         if high < low {
             return Err(Fault::At(place, Expected::RangeEnd));
         }
-        class.add(low, high);
-        Ok(())
+        Ok(high)
     }
 
     // One byte of a class, as itself or as an escape.
     fn class_byte(&mut self) -> Result<u8, Fault>
-        ensures { OnOk result (Past self.old self.new) }
+        ensures past { OnOk result (Past self.old self.new) }
+        ensures byte { IfOk result (λ byte. byte < 256) }
     {
         match self.peek() {
             Some(b'\\') => {
@@ -139,10 +136,10 @@ impl Reader<'_> {
     {
         let high = class.run_end(low);
         let Some(next) = class.next(high as usize + 1) else {
-            return self.put_range(list, low, high);
+            return self.put(list, Node::Range(low, high));
         };
-        self.put(list, UNION)?;
-        self.put_range(list, low, high)?;
+        self.put(list, Node::Union)?;
+        self.put(list, Node::Range(low, high))?;
         self.put_runs(list, class, next)
     }
 }

@@ -8,8 +8,8 @@ ghost use Rattle.notation.specs.Reading.{On, Past};
 ghost use Rattle.notation.specs.Writing.{Parsed, Keeps};
 
 use crate::error::{Expected, Fault};
-use crate::scan::{Reader, Span, begins_word};
-use crate::writing::{COMPLEMENT, EMPTY, INTERSECTION, NOTHING, SEQUENCE, STAR, UNION};
+use crate::scan::{Reader, begins_word};
+use patterns::node::Node;
 
 // How deep brackets may nest.
 pub const MOST_NESTING: usize = 500;
@@ -25,7 +25,7 @@ impl Reader<'_> {
         if !self.accept(b'|') {
             return Ok(());
         }
-        self.put_before(list, start, UNION)?;
+        self.put_before(list, start, Node::Union)?;
         self.expression(list, depth)
     }
 
@@ -39,7 +39,7 @@ impl Reader<'_> {
         if !self.accept(b'&') {
             return Ok(());
         }
-        self.put_before(list, start, INTERSECTION)?;
+        self.put_before(list, start, Node::Intersection)?;
         self.conjunction(list, depth)
     }
 
@@ -53,7 +53,7 @@ impl Reader<'_> {
         if !self.goes_on() {
             return Ok(());
         }
-        self.put_before(list, start, SEQUENCE)?;
+        self.put_before(list, start, Node::Sequence)?;
         self.sequence(list, depth)
     }
 
@@ -74,7 +74,7 @@ impl Reader<'_> {
         if !self.accept(b'!') {
             return self.repetition(list, depth);
         }
-        self.put(list, COMPLEMENT)?;
+        self.put(list, Node::Complement)?;
         self.negation(list, depth)
     }
 
@@ -120,24 +120,20 @@ impl Reader<'_> {
         ensures { OnOk result (Parsed self.old self.new list.old.items list.new.items) }
     {
         self.expect(b'.', Expected::Expression)?;
-        self.put_range(list, 0, 255)
+        self.put(list, Node::Range(0, 255))
     }
 
     // The words for no word at all and for the empty one.
     fn constant(&mut self, list: &mut Vec<u8>) -> Result<(), Fault>
         ensures { OnOk result (Parsed self.old self.new list.old.items list.new.items) }
     {
-        let place = self.at;
         let text = self.text;
-        let Span { start, end } = self.word(Expected::Expression)?;
-        let bytes = &text[start..end];
-        if bytes == b"nothing".as_slice() {
-            return self.put(list, NOTHING);
+        let word = self.word(Expected::Expression)?;
+        match word.of(text) {
+            b"nothing" => self.put(list, Node::Nothing),
+            b"empty" => self.put(list, Node::Empty),
+            _ => Err(Fault::At(word.start, Expected::Expression)),
         }
-        if bytes == b"empty".as_slice() {
-            return self.put(list, EMPTY);
-        }
-        Err(Fault::At(place, Expected::Expression))
     }
 
     // The repetitions of the pattern that stands from a place of the list on.
@@ -158,7 +154,7 @@ impl Reader<'_> {
         ensures keeps { OnOk result (Keeps start list.old.items list.new.items) }
     {
         if self.accept(b'*') {
-            self.put_before(list, start, STAR)?;
+            self.put_before(list, start, Node::Star)?;
             return Ok(true);
         }
         if self.accept(b'+') {
@@ -166,8 +162,8 @@ impl Reader<'_> {
             return Ok(true);
         }
         if self.accept(b'?') {
-            self.put_before(list, start, EMPTY)?;
-            self.put_before(list, start, UNION)?;
+            self.put_before(list, start, Node::Empty)?;
+            self.put_before(list, start, Node::Union)?;
             return Ok(true);
         }
         Ok(false)
@@ -181,7 +177,7 @@ impl Reader<'_> {
     {
         let end = list.len();
         list.extend_from_within(start..end)?;
-        self.put_before(list, end, STAR)?;
-        self.put_before(list, start, SEQUENCE)
+        self.put_before(list, end, Node::Star)?;
+        self.put_before(list, start, Node::Sequence)
     }
 }

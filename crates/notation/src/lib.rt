@@ -17,7 +17,6 @@ mod scan;
 mod writing;
 
 use error::{Error, Expected, Fault, Mistake};
-use place::locate;
 use scan::Reader;
 pub use scan::Span;
 
@@ -42,18 +41,7 @@ pub fn read(heap: Global, text: &[u8]) -> Result<Notation, Error>
             expected: Expected::ShorterText,
         }));
     }
-    match read_lines(heap, text) {
-        Ok(notation) => Ok(notation),
-        Err(Fault::At(at, expected)) => {
-            let (line, column) = locate(text, at);
-            Err(Error::Misread(Mistake {
-                line,
-                column,
-                expected,
-            }))
-        }
-        Err(Fault::OutOfMemory) => Err(Error::OutOfMemory),
-    }
+    read_lines(heap, text).map_err(|fault| fault.in_text(text))
 }
 
 // Reads line after line; a mistake's place is still counted in bytes.

@@ -14,14 +14,13 @@ impl Reader<'_> {
         requires { Each (Within self.old.text.now) names.now }
         ensures { IfOk result (λ n. Line self.old self.new list.old.items list.new.items names.now n) }
     {
-        let place = self.at;
         let text = self.text;
         let name = self.word(Expected::Name)?;
         if names.len() >= MOST_PATTERNS {
-            return Err(Fault::At(place, Expected::FewerPatterns));
+            return Err(Fault::At(name.start, Expected::FewerPatterns));
         }
         if is_used(text, names, name) {
-            return Err(Fault::At(place, Expected::NewName));
+            return Err(Fault::At(name.start, Expected::NewName));
         }
         self.expect(b':', Expected::Colon)?;
         self.expression(list, 0)?;
@@ -38,23 +37,6 @@ fn is_used(text: &[u8], names: &[Span], name: Span) -> bool
     requires name { Within text.now name }
     ensures { result ≡ false → Each (Unlike text.now name) names.now }
 {
-    for other in names {
-        if is_same(text, *other, name) {
-            return true;
-        }
-    }
-    false
-}
-
-// Whether two spans hold the same word.
-fn is_same(text: &[u8], a: Span, b: Span) -> bool
-    requires a { Within text.now a }
-    requires b { Within text.now b }
-    ensures { result ≡ false → Unlike text.now b a }
-{
-    let a_start = a.start;
-    let a_end = a.end;
-    let b_start = b.start;
-    let b_end = b.end;
-    &text[a_start..a_end] == &text[b_start..b_end]
+    let word = name.of(text);
+    names.iter().any(|other| other.of(text) == word)
 }

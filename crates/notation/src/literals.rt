@@ -5,7 +5,7 @@ ghost use Rattle.notation.specs.Writing.{Parsed};
 
 use crate::error::{Expected, Fault};
 use crate::scan::Reader;
-use crate::writing::{EMPTY, SEQUENCE};
+use patterns::node::Node;
 
 impl Reader<'_> {
     // A literal from its first quote on: its bytes one after the other, or the empty word.
@@ -16,7 +16,7 @@ impl Reader<'_> {
             return Err(self.fault(Expected::Expression));
         }
         if self.accept(b'"') {
-            return self.put(list, EMPTY);
+            return self.put(list, Node::Empty);
         }
         self.literal_rest(list)
     }
@@ -27,10 +27,10 @@ impl Reader<'_> {
     {
         let byte = self.literal_byte()?;
         if self.accept(b'"') {
-            return self.put_range(list, byte, byte);
+            return self.put(list, Node::Range(byte, byte));
         }
-        self.put(list, SEQUENCE)?;
-        self.put_range(list, byte, byte)?;
+        self.put(list, Node::Sequence)?;
+        self.put(list, Node::Range(byte, byte))?;
         self.literal_rest(list)
     }
 
@@ -90,13 +90,10 @@ impl Reader<'_> {
         ensures past { OnOk result (Past self.old self.new) }
         ensures small { IfOk result (λ n. n < 16) }
     {
-        let value = match self.peek() {
-            Some(byte @ b'0'..=b'9') => byte - b'0',
-            Some(byte @ b'a'..=b'f') => byte - b'a' + 10,
-            Some(byte @ b'A'..=b'F') => byte - b'A' + 10,
-            _ => return Err(self.fault(Expected::HexDigits)),
+        let Some(value) = self.peek().and_then(|byte| char::from(byte).to_digit(16)) else {
+            return Err(self.fault(Expected::HexDigits));
         };
         self.at += 1;
-        Ok(value)
+        Ok(value as u8)
     }
 }

@@ -1,6 +1,7 @@
 // The text and the place that reading has come to: bytes, what separates them, and names.
 ghost use Rattle.std.specs.Prelude.{◌≡◌, ◌+◌, ◌<◌, ◌≤◌, length, IfOk, MatchBool, MatchOption, OnOk, ◌||◌, ◌==◌, slice_index};
 ghost use Rattle.std.specs.Char.{is_ascii_alphabetic};
+ghost use Rattle.notation.specs.Names.{word_of};
 ghost use Rattle.notation.specs.Reading.{On, Past, Within};
 
 use crate::error::{Expected, Fault};
@@ -10,6 +11,15 @@ use crate::error::{Expected, Fault};
 pub struct Span {
     pub start: usize,
     pub end: usize,
+}
+
+impl Span {
+    // The bytes that it holds of a text; none where it lies outside.
+    pub fn of(self, text: &[u8]) -> &[u8]
+        ensures within { Within text.now self → result.now ≡ word_of text.now self }
+    {
+        text.get(self.start..self.end).unwrap_or(&[])
+    }
 }
 
 // The text, and the place of the next byte to read.
@@ -31,11 +41,7 @@ impl Reader<'_> {
     pub fn peek(&self) -> Option<u8>
         ensures { MatchOption result (length self.now.text.now ≤ self.now.at) (λ b. (self.now.at < length self.now.text.now) × (b ≡ slice_index self.now.text.now self.now.at)) }
     {
-        if self.at < self.text.len() {
-            Some(self.text[self.at])
-        } else {
-            None
-        }
+        self.text.get(self.at).copied()
     }
 
     // Steps over the byte, if it stands at the place.

@@ -1,61 +1,44 @@
-// Writing a pattern's bytes behind those of a list, up to as many as a list may have.
-ghost use Rattle.std.specs.Prelude.{◌≡◌, ◌+◌, ◌≤◌, [], ◌∷◌, ◌++◌, length, vec_len, OnOk};
-ghost use Rattle.std.specs.List.{insert};
+// Writing a pattern's nodes behind the bytes of a list, up to as many as a list may have.
+ghost use Rattle.std.specs.Prelude.{◌≡◌, ◌+◌, ◌≤◌, ◌++◌, length, take, drop, vec_len, OnOk};
+ghost use Rattle.patterns.specs.Nodes.{node_bytes};
 ghost use Rattle.notation.specs.Writing.{Put};
 
 use crate::error::{Expected, Fault};
 use crate::scan::Reader;
 use patterns::list::MOST_BYTES;
-
-// The first byte of each kind of pattern.
-pub const NOTHING: u8 = 0;
-
-pub const EMPTY: u8 = 1;
-
-pub const RANGE: u8 = 2;
-
-pub const SEQUENCE: u8 = 3;
-
-pub const UNION: u8 = 4;
-
-pub const INTERSECTION: u8 = 5;
-
-pub const COMPLEMENT: u8 = 6;
-
-pub const STAR: u8 = 7;
+use patterns::node::Node;
 
 impl Reader<'_> {
-    // Writes one more byte.
-    pub fn put(&self, list: &mut Vec<u8>, byte: u8) -> Result<(), Fault>
-        ensures { OnOk result (Put list.old.items (byte ∷ []) list.new.items) }
+    // Writes one more node.
+    pub fn put(&self, list: &mut Vec<u8>, node: Node) -> Result<(), Fault>
+        ensures { OnOk result (Put list.old.items (node_bytes node) list.new.items) }
     {
-        if list.len() >= MOST_BYTES {
-            return Err(self.fault(Expected::FewerBytes));
+        let tag = node.tag();
+        match node {
+            Node::Range(low, high) => self.put_bytes(list, &[tag, low, high]),
+            _ => self.put_bytes(list, &[tag]),
         }
-        list.push(byte)?;
-        Ok(())
     }
 
-    // Writes a byte in front of what stands from a place on.
-    pub fn put_before(&self, list: &mut Vec<u8>, start: usize, byte: u8) -> Result<(), Fault>
+    // Writes a node in front of what stands from a place on.
+    pub fn put_before(&self, list: &mut Vec<u8>, start: usize, node: Node) -> Result<(), Fault>
         requires { start ≤ vec_len list.old }
-        ensures items { OnOk result (list.new.items ≡ insert list.old.items start byte) }
-        ensures len { OnOk result (vec_len list.new ≡ vec_len list.old + 1) }
+        ensures items { OnOk result (list.new.items ≡ take start list.old.items ++ (node_bytes node ++ drop start list.old.items)) }
+        ensures len { OnOk result (vec_len list.new ≡ vec_len list.old + length (node_bytes node)) }
         ensures short { OnOk result (length list.new.items ≤ 4096) }
     {
-        if list.len() >= MOST_BYTES {
-            return Err(self.fault(Expected::FewerBytes));
-        }
-        list.insert(start, byte)?;
+        self.put(list, node)?;
+        list[start..].rotate_right(node.width());
         Ok(())
     }
 
-    // Writes the range from one byte to another.
-    pub fn put_range(&self, list: &mut Vec<u8>, low: u8, high: u8) -> Result<(), Fault>
-        ensures { OnOk result (Put list.old.items (2 ∷ low ∷ high ∷ []) list.new.items) }
+    fn put_bytes(&self, list: &mut Vec<u8>, bytes: &[u8]) -> Result<(), Fault>
+        ensures { OnOk result (Put list.old.items bytes.now list.new.items) }
     {
-        self.put(list, RANGE)?;
-        self.put(list, low)?;
-        self.put(list, high)
+        if list.len() + bytes.len() > MOST_BYTES {
+            return Err(self.fault(Expected::FewerBytes));
+        }
+        list.extend_from_slice(bytes)?;
+        Ok(())
     }
 }

@@ -16,6 +16,22 @@ pub enum Node {
 }
 
 impl Node {
+    // The byte that it begins with, which says its kind.
+    pub fn tag(self) -> u8
+        ensures { result ≡ slice_index (node_bytes self) 0 }
+    {
+        match self {
+            Node::Nothing => 0,
+            Node::Empty => 1,
+            Node::Range(_, _) => 2,
+            Node::Sequence => 3,
+            Node::Union => 4,
+            Node::Intersection => 5,
+            Node::Complement => 6,
+            Node::Star => 7,
+        }
+    }
+
     // How many bytes the node itself takes.
     pub fn width(self) -> usize
         ensures { result ≡ length (node_bytes self) }

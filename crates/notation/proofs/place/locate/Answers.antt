@@ -1,4 +1,4 @@
-use Rattle.std.proofs.Common.{ap, ◌∙◌}
+use Rattle.std.proofs.Common.{refl, ap, ◌∙◌}
 use Rattle.notation.specs.Places.{line_of, column_of}
 use Rattle.notation.proofs.Placing.{counted_none, counted_line, counted_byte, counted_all, take_within}
 use Rattle.notation.proofs.place.locate.Goals as goal
@@ -18,4 +18,4 @@ pub returns : goal.returns
 returns c =
     let all = counted_all c.loop-byte.invariant c.loop-byte-test.false in
     let front = take_within c.args.at c.min.result c.args.text.now c.min.ensures in
-    record { line = all.0 ∙ ap line_of front; column = all.1 ∙ ap column_of front }
+    record { line = all.0 ∙ ap line_of front; column = all.1 ∙ ap column_of front; expected = refl }

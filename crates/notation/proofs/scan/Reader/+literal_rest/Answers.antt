@@ -7,12 +7,12 @@ use Rattle.notation.proofs.scan.Reader.+literal_rest.Goals as goal
 pub returns-then-accept : goal.returns-then-accept
 returns-then-accept t c =
     let byte = c.in_ok-byte.byte in
-    IfOk-weaker c.put_range.result _ _
+    IfOk-weaker c.put.result _ _
     (λ _ h. record {
       past = past_past c.in_ok-byte.ensures.past c.if-accept.ensures;
       added = added_range byte byte c.in_ok-byte.ensures.byte (omega arith) h;
     })
-    c.put_range.ensures
+    c.put.ensures
 
 pub returns : goal.returns
 returns t c =
@@ -20,6 +20,6 @@ returns t c =
     IfOk-weaker c.literal_rest.result _ _
     (λ _ h. record {
       past = past_past c.in_ok-byte.ensures.past (past_same c.if-accept.ensures h.past);
-      added = added_front sequences byte byte c.in_ok-byte.ensures.byte (omega arith) c.in_ok-put.ensures c.in_ok-put_range.ensures h.added;
+      added = added_front sequences byte byte c.in_ok-byte.ensures.byte (omega arith) c.in_ok-put.ensures c.in_ok-put-2.ensures h.added;
     })
     c.literal_rest.ensures

@@ -5,4 +5,4 @@ use Rattle.notation.proofs.scan.Reader.any_byte.Goals as goal
 
 pub returns : goal.returns
 returns c =
-    IfOk-weaker c.put_range.result _ _ (λ _ h. record { past = c.in_ok-expect.ensures; added = added_range 0 255 (omega arith) (omega arith) h }) c.put_range.ensures
+    IfOk-weaker c.put.result _ _ (λ _ h. record { past = c.in_ok-expect.ensures; added = added_range 0 255 (omega arith) (omega arith) h }) c.put.ensures

@@ -4,8 +4,8 @@ use Rattle.patterns.specs.Patterns.{nothing, empty}
 use Rattle.notation.proofs.Adding.{added}
 use Rattle.notation.proofs.scan.Reader.constant.Goals as goal
 
-pub returns-then-eq : goal.returns-then-eq
-returns-then-eq c = IfOk-weaker c.put.result _ _ (λ _ h. record { past = c.in_ok-start.ensures.0; added = added nothing refl h }) c.put.ensures
+pub returns-in-nothing : goal.returns-in-nothing
+returns-in-nothing c = IfOk-weaker c.put-in-nothing.result _ _ (λ _ h. record { past = c.in_ok-word.ensures.0; added = added nothing refl h }) c.put-in-nothing.ensures
 
-pub returns-then-eq-2 : goal.returns-then-eq-2
-returns-then-eq-2 c = IfOk-weaker c.put-then-eq-2.result _ _ (λ _ h. record { past = c.in_ok-start.ensures.0; added = added empty refl h }) c.put-then-eq-2.ensures
+pub returns-in-empty : goal.returns-in-empty
+returns-in-empty c = IfOk-weaker c.put.result _ _ (λ _ h. record { past = c.in_ok-word.ensures.0; added = added empty refl h }) c.put.ensures
