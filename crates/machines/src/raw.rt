@@ -1,5 +1,5 @@
 // A table on the way: rows at a stride of 257, of which the columns in use stand first.
-ghost use Rattle.std.specs.Prelude.{◌≡◌, ◌+◌, ◌*◌, ◌<◌, length, take, drop, MatchOption};
+ghost use Rattle.std.specs.Prelude.{◌≡◌, ◌+◌, ◌*◌, ◌^◌, ◌<◌, length, take, drop, MatchOption};
 ghost use Rattle.machines.specs.Columns.{cell, shown};
 ghost use Rattle.machines.specs.Inside.{Inside};
 
@@ -67,6 +67,7 @@ impl<'a> RawTable<'a> {
         requires column { column < self.columns }
         ensures is { result ≡ cell self.entry.words.now row column }
         ensures there { result < self.entry.rows }
+        ensures fits { result < 2 ^ 32 }
     {
         let words = self.words;
         words[257 * row + (1 + column)] as usize

@@ -1,7 +1,9 @@
 // Sets of rows as bits in words; the dead row is never put in.
-ghost use Rattle.std.specs.Prelude.{◌≡◌, ℕ, ◌*◌, ◌/◌, ◌<◌, ◌≤◌, length, replicate};
-ghost use Rattle.machines.specs.Inside.{Inside};
+ghost use Rattle.std.specs.Prelude.{◌≡◌, ℕ, ◌-◌, ◌*◌, ◌/◌, ◌<◌, ◌≤◌, Option, length, replicate};
+ghost use Rattle.std.specs.Iterator.{at_most};
 ghost use Rattle.subsets.specs.Sets as sets;
+
+use machines::raw::RawTable;
 
 // Whether q is in the set.
 pub fn has(words: &[u32], q: usize) -> bool
@@ -27,65 +29,78 @@ pub fn clear(words: &mut [u32])
 }
 
 // Puts q in unless it is dead.
-pub fn add_live(words: &mut [u32], q: usize, dead: usize)
+pub fn add_live(words: &mut [u32], q: usize, dead: Option<usize>)
     requires { q / 32 < length words.old }
     ensures { words.new ≡ sets.add_live words.old q dead }
 {
-    if q != dead {
+    if dead != Some(q) {
         add(words, q);
     }
 }
 
-// The least member from q up; `rows` if none is below that. Where the rest of a word is 0 it is passed over at once.
-fn next_in(words: &[u32], q: usize, rows: usize) -> usize
-    requires room { rows ≤ 32 * length words.now }
-    requires q { q ≤ rows }
-    ensures { sets.Next words.now q rows result }
-{
-    let mut r = q;
-    while r < rows {
-        let rest = words[r / 32] >> (r % 32);
-        if rest == 0 {
-            if rows - r <= 32 - r % 32 {
-                return rows;
-            }
-            r += 32 - r % 32;
-        } else {
-            if rest % 2 == 1 {
-                return r;
-            }
-            r += 1;
-        }
+// The members of a set from `at` up and below `rows`.
+#[derive(Drop)]
+pub struct Members<'a> {
+    words: &'a [u32],
+    at: usize,
+    rows: usize,
+    ghost within: { at ≤ rows },
+    ghost room: { rows ≤ 32 * length words.now },
+}
+
+impl<'a> Members<'a> {
+    // The members of a set below `rows`.
+    pub fn new(words: &'a [u32], rows: usize) -> Members<'a>
+        requires { rows ≤ 32 * length words.now }
+        ensures { (result.words.now ≡ words.now) × (result.at ≡ 0) × (result.rows ≡ rows) }
+    {
+        Members { words, at: 0, rows }
     }
-    rows
+}
+
+impl<'a> Iterator for Members<'a> {
+    type Item = usize;
+
+    ghost next_gives = { λ s r t. sets.Next s.words.now s.at s.rows r t.at × (t.words.now ≡ s.words.now) × (t.rows ≡ s.rows) };
+
+    ghost remaining = { λ s. at_most (s.rows - s.at) };
+
+    // Where the rest of a word is 0 it is passed over at once.
+    fn next(&mut self) -> Option<usize> {
+        while self.at < self.rows {
+            let q = self.at;
+            let rest = self.words[q / 32] >> (q % 32);
+            if rest == 0 {
+                if self.rows - q <= 32 - q % 32 {
+                    return None;
+                }
+                self.at += 32 - q % 32;
+            } else {
+                self.at += 1;
+                if rest % 2 == 1 {
+                    return Some(q);
+                }
+            }
+        }
+        None
+    }
 }
 
 // Where a column leads from the rows of a set.
-pub fn moves(
-    table: &[u32],
-    columns: usize,
-    rows: usize,
-    dead: usize,
-    at: usize,
-    from: &[u32],
-    to: &mut [u32],
-)
-    requires table { Inside columns rows table.now }
-    requires at { at < columns }
-    requires from { rows ≤ 32 * length from.now }
-    requires to { rows ≤ 32 * length to.old }
-    ensures { to.new ≡ sets.moved table.now dead at from.now (length to.old) rows }
+pub fn moves(table: RawTable<'_>, dead: Option<usize>, at: usize, from: &[u32], to: &mut [u32])
+    requires at { at < table.columns }
+    requires from { table.rows ≤ 32 * length from.now }
+    requires to { table.rows ≤ 32 * length to.old }
+    ensures { to.new ≡ sets.moved table.entry.words.now dead at from.now (length to.old) table.entry.rows }
 {
     clear(to);
-    let mut q = next_in(from, 0, rows);
-    while q < rows {
-        add_live(to, table[257 * q + (1 + at)] as usize, dead);
-        q = next_in(from, q + 1, rows);
+    for q in Members::new(from, table.rows()) {
+        add_live(to, table.cell(q, at), dead);
     }
 }
 
 // Row 0 too, if there is a mark.
-pub fn mark_first(words: &mut [u32], mark: bool, dead: usize)
+pub fn mark_first(words: &mut [u32], mark: bool, dead: Option<usize>)
     requires { 0 < length words.old }
     ensures { words.new ≡ sets.marks mark dead words.old }
 {
@@ -95,7 +110,7 @@ pub fn mark_first(words: &mut [u32], mark: bool, dead: usize)
 }
 
 // The empty set, or row 0 alone if there is a mark.
-pub fn first(words: &mut [u32], mark: bool, dead: usize)
+pub fn first(words: &mut [u32], mark: bool, dead: Option<usize>)
     requires { 0 < length words.old }
     ensures { words.new ≡ sets.marks mark dead (replicate (length words.old) 0) }
 {
@@ -103,62 +118,15 @@ pub fn first(words: &mut [u32], mark: bool, dead: usize)
     mark_first(words, mark, dead);
 }
 
-// Where a column leads from the rows of a set, and row 0 too if there is a mark.
-pub fn join(
-    table: &[u32],
-    columns: usize,
-    rows: usize,
-    dead: usize,
-    at: usize,
-    from: &[u32],
-    to: &mut [u32],
-    mark: bool,
-)
-    requires table { Inside columns rows table.now }
-    requires at { at < columns }
-    requires from { rows ≤ 32 * length from.now }
-    requires to { rows ≤ 32 * length to.old }
-    ensures { to.new ≡ sets.marks mark dead (sets.moved table.now dead at from.now (length to.old) rows) }
-{
-    moves(table, columns, rows, dead, at, from, to);
-    mark_first(to, mark, dead);
-}
-
-// The same with the mark where a row that is reached shows 1; whether one does.
-pub fn renew(
-    table: &[u32],
-    columns: usize,
-    rows: usize,
-    dead: usize,
-    at: usize,
-    from: &[u32],
-    to: &mut [u32],
-) -> bool
-    requires table { Inside columns rows table.now }
-    requires at { at < columns }
-    requires from { rows ≤ 32 * length from.now }
-    requires to { rows ≤ 32 * length to.old }
-    ensures says { result ≡ sets.accepts table.now (sets.moved table.now dead at from.now (length to.old) rows) rows }
-    ensures set { to.new ≡ sets.marks result dead (sets.moved table.now dead at from.now (length to.old) rows) }
-{
-    moves(table, columns, rows, dead, at, from, to);
-    let reached = accepts(table, rows, to);
-    mark_first(to, reached, dead);
-    reached
-}
-
 // Whether a row of the set shows 1.
-pub fn accepts(table: &[u32], rows: usize, words: &[u32]) -> bool
-    requires long { 257 * rows ≤ length table.now }
-    requires room { rows ≤ 32 * length words.now }
-    ensures { result ≡ sets.accepts table.now words.now rows }
+pub fn accepts(table: RawTable<'_>, words: &[u32]) -> bool
+    requires { table.rows ≤ 32 * length words.now }
+    ensures { result ≡ sets.accepts table.entry.words.now words.now table.entry.rows }
 {
-    let mut q = next_in(words, 0, rows);
-    while q < rows {
-        if table[257 * q] == 1 {
+    for q in Members::new(words, table.rows()) {
+        if table.shown(q) == 1 {
             return true;
         }
-        q = next_in(words, q + 1, rows);
     }
     false
 }

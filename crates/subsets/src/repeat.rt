@@ -1,48 +1,45 @@
 // One table read from the start, and again from each place where it shows 1.
 ghost use Rattle.std.specs.Prelude.{◌≡◌, ℕ, ◌+◌, ◌/◌, List, length, slice_index};
-ghost use Rattle.machines.specs.Columns.{Columns};
-ghost use Rattle.machines.specs.Inside.{Inside};
 ghost use Rattle.subsets.specs.Sets.{again, whole};
 
 use crate::bits;
 use exploration::system::System;
+use machines::columns::ByteColumns;
+use machines::raw::RawTable;
 
 // A key is whether the whole is accepted, and the set of the table's rows but its dead one.
 #[derive(Drop)]
 pub struct Repeat<'a> {
-    pub table: &'a [u32],
-    pub rows: usize,
-    pub dead: usize,
-    pub columns: usize,
-    pub column: &'a [u32],
-    pub least: &'a [u32],
+    pub table: RawTable<'a>,
+    pub dead: Option<usize>,
+    pub columns: ByteColumns<'a>,
 }
 
 impl<'a> System for Repeat<'a> {
-    ghost width = { λ s. 1 + (s.rows / 32 + 1) };
+    ghost width = { λ s. 1 + (s.table.rows / 32 + 1) };
 
-    ghost count = { λ s. s.columns };
+    ghost count = { λ s. s.columns.count };
 
-    ghost column = { λ s b. slice_index s.column.now b };
+    ghost column = { λ s b. slice_index s.columns.column.now b };
 
-    ghost least = { λ s j. slice_index s.least.now j };
+    ghost least = { λ s j. slice_index s.columns.least.now j };
 
-    ghost begin = { λ s. whole s.dead (s.rows / 32 + 1) };
+    ghost begin = { λ s. whole s.dead (s.table.rows / 32 + 1) };
 
-    ghost next = { λ s k b. again s.table.now s.dead (s.rows / 32 + 1) s.rows k (slice_index s.column.now b) };
+    ghost next = { λ s k b. again s.table.words.now s.dead (s.table.rows / 32 + 1) s.table.rows k (slice_index s.columns.column.now b) };
 
     ghost shows = { λ s k. slice_index k 0 };
 
-    ghost ready = { λ s. Columns s.columns (λ b. slice_index s.column.now b) (λ j. slice_index s.least.now j) × Inside s.columns s.rows s.table.now };
+    ghost ready = { λ s. s.table.columns ≡ s.columns.count };
 
-    ghost good = { λ s k. length k ≡ 1 + (s.rows / 32 + 1) };
+    ghost good = { λ s k. length k ≡ 1 + (s.table.rows / 32 + 1) };
 
     fn size(&self) -> usize {
-        1 + (self.rows / 32 + 1)
+        1 + (self.table.rows() / 32 + 1)
     }
 
     fn columns(&self) -> usize {
-        self.columns
+        self.columns.count
     }
 
     fn start(&self, out: &mut [u32]) {
@@ -51,15 +48,10 @@ impl<'a> System for Repeat<'a> {
     }
 
     fn step(&self, key: &[u32], at: usize, out: &mut [u32]) {
-        let mark = bits::renew(
-            self.table,
-            self.columns,
-            self.rows,
-            self.dead,
-            at,
-            &key[1..],
-            &mut out[1..],
-        );
+        let reached = &mut out[1..];
+        bits::moves(self.table, self.dead, at, &key[1..], reached);
+        let mark = bits::accepts(self.table, reached);
+        bits::mark_first(reached, mark, self.dead);
         out[0] = mark as u32;
     }
 

@@ -1,21 +1,22 @@
-use Rattle.std.proofs.Common.{◌≡◌, sym, ap, ◌∙◌, arith}
-use Rattle.subsets.specs.Sets.{accepts}
-use Rattle.subsets.proofs.Moves.{accepts_start, accepts_more, accepts_to}
+use Rattle.std.proofs.Common.{sym, ap, ◌∙◌, arith}
+use Rattle.subsets.specs.Sets.{has}
+use Rattle.subsets.proofs.Moves.{accepts_none, accepts_more, accepts_to}
 use Rattle.subsets.proofs.bits.accepts.Goals as goal
 
-pub loop-q-init : goal.loop-q-init
-loop-q-init c = let N = c.next_in-q.ensures in (N.few, N.here, accepts_start _ _ c.args.rows _ N)
+pub returns-then-shown-eq1 : goal.returns-then-shown-eq1
+returns-then-shown-eq1 c =
+    let v = c.loop-q.invariant in
+    let F = c.in-Some.ensures.steps.0 in
+    sym (accepts_to c.args.table.words.now c.args.words.now c.args.table.rows c.in-Some.q (omega (arith, F.few, v.3)) (ap (λ z. has z c.in-Some.q) (sym v.2) ∙ F.here) (omega (arith, c.shown.ensures)))
 
 pub loop-q-preserved : goal.loop-q-preserved
 loop-q-preserved c =
-    let N = c.next_in-q-in-loop-q.ensures in
-    (N.few, N.here, accepts_more c.args.table.now c.args.words.now c.args.rows c.loop-q.q _ c.loop-q.invariant.2 c.if-table-q-eq1.false N)
-
-pub returns-then-table-q-eq1 : goal.returns-then-table-q-eq1
-returns-then-table-q-eq1 c =
-    sym (accepts_to c.args.table.now c.args.words.now c.args.rows c.loop-q.q c.loop-q-test.true (c.loop-q.invariant.1 c.loop-q-test.true) c.if-table-q-eq1.true)
+    let v = c.loop-q.invariant in
+    let s = c.in-Some.ensures.steps in
+    (tt, tt, s.1 ∙ v.2, s.2 ∙ v.3, accepts_more c.args.table.words.now c.args.words.now _ _ _ _ _ v.2 v.4 (λ e. c.if-shown-eq1.false (c.shown.ensures ∙ e)) s.0)
 
 pub returns : goal.returns
 returns c =
-    let full : c.loop-q.q ≡ c.args.rows = omega (arith, c.loop-q.invariant.0) in
-    sym (ap (accepts c.args.table.now c.args.words.now) (sym full) ∙ c.loop-q.invariant.2)
+    let v = c.loop-q.invariant in
+    let i = c.loop-q.q-iterator in
+    sym (accepts_none c.args.table.words.now c.args.words.now c.args.table.rows i.at _ v.2 v.4 (omega (arith, i.within, v.3)) (λ s l h. c.in-None.ensures.steps.0 s l (omega (arith, v.3))))

@@ -1,27 +1,25 @@
-use Rattle.std.proofs.Common.{◌≡◌, length, replicate, ap, ◌∙◌, arith}
-use Rattle.subsets.specs.Sets.{moved}
-use Rattle.subsets.proofs.Moves.{moved_start, moved_more}
+use Rattle.std.proofs.Common.{◌≡◌, length, ap, ◌∙◌, sym, arith}
+use Rattle.subsets.specs.Sets.{has, add_live, moved}
+use Rattle.subsets.proofs.Moves.{moved_past, moved_more}
 use Rattle.subsets.proofs.bits.moves.Goals as goal
-
-pub loop-q-init : goal.loop-q-init
-loop-q-init c =
-    let N = c.next_in-q.ensures in
-    let long : length c.args.to.now ≡ length c.clear.new.words = omega (arith, c.clear.auto.words) in
-    (N.few, N.here, moved_start _ _ _ _ _ c.args.rows _ _ (c.clear.ensures ∙ ap (λ z. replicate z 0) long) N)
-
-pub overflow_add-q-in-loop-q : goal.overflow_add-q-in-loop-q
-overflow_add-q-in-loop-q c = omega arith
 
 pub loop-q-preserved : goal.loop-q-preserved
 loop-q-preserved c =
-    let N = c.next_in-q-in-loop-q.ensures in
     let v = c.loop-q.invariant in
-    (N.few, N.here, moved_more _ _ _ _ _ c.args.rows c.loop-q.q _ _ _ (v.1 c.loop-q-test.true) v.2 c.add_live.ensures N)
+    let s = c.in-Some.ensures.steps in (
+      tt,
+      tt,
+      s.1 ∙ v.2,
+      s.2 ∙ v.3,
+      moved_more _ c.args.dead c.args.at _ _ _ _ _ _ _ _ _ v.2 v.4 (c.add_live.ensures ∙ ap (λ z. add_live c.loop-q.to z c.args.dead) c.cell.ensures.is) s.0,
+    )
 
 pub returns : goal.returns
 returns c =
-    let full : c.loop-q.q ≡ c.args.rows = omega (arith, c.loop-q.invariant.0) in
+    let v = c.loop-q.invariant in
+    let i = c.loop-q.q-iterator in
     let long : length c.clear.new.words ≡ length c.args.to.now = omega (arith, c.clear.auto.words) in
-    c.loop-q.invariant.2
-    ∙ ap (λ z. moved c.args.table.now c.args.dead c.args.at c.args.from.now z c.loop-q.q) long
-    ∙ ap (λ z. moved c.args.table.now c.args.dead c.args.at c.args.from.now (length c.args.to.now) z) full
+    v.4
+    ∙ ap (λ z. moved c.args.table.words.now c.args.dead c.args.at c.args.from.now z i.at) long
+    ∙ sym (moved_past c.args.table.words.now c.args.dead c.args.at c.args.from.now _ i.at c.args.table.rows (omega (arith, i.within, v.3))
+    (λ s l h. ap (λ z. has z s) (sym v.2) ∙ c.in-None.ensures.steps.0 s l (omega (arith, v.3))))

@@ -1,9 +1,11 @@
-use Rattle.std.proofs.Common.{◌≡◌, ◌-◌, ◌<◌, ◌≤◌, true, length}
-use Rattle.subsets.specs.Sets.{has, moved}
+use Rattle.std.proofs.Common.{◌≡◌, length}
+use Rattle.subsets.specs.Sets.{moved}
 use Rattle.subsets.proofs.bits.moves.Given as goal
 
 abbrev pub invariant-loop-q : goal.invariant-loop-q
-invariant-loop-q l = (l.q ≤ l.rows) × (l.q < l.rows → has l.from l.q ≡ true) × (l.to ≡ moved l.table l.dead l.at l.from (length l.initial.to) l.q)
-
-abbrev pub decreases-loop-q : goal.decreases-loop-q
-decreases-loop-q l = l.rows - l.q
+invariant-loop-q l =
+    (goal.iterator-loop-q).can_next l.q-iterator
+    × (goal.iterator-loop-q).is_finite l.q-iterator
+    × (l.q-iterator.words.now ≡ l.from)
+    × (l.q-iterator.rows ≡ l.table.rows)
+    × (l.to ≡ moved l.table.words.now l.dead l.at l.from (length l.initial.to) l.q-iterator.at)
