@@ -3,6 +3,8 @@ use Rattle.std.proofs.Common.{◌≡◌, ℕ, ◌+◌, ◌-◌, ◌<◌, ◌≤�
 use Rattle.std.proofs.lemmas.Bool.{cases_eq, cases_lt, cases_order}
 use Rattle.std.proofs.lemmas.List.{get_or-set_same, get_or-set_other, get_or-replicate}
 use Rattle.exploration.specs.Hashed.{bucket, Last, Indexed}
+use Rattle.exploration.specs.Standing.{Same}
+use Rattle.exploration.specs.declared.index.Index.{Index}
 
 module _ (m : ℕ) (key : ℕ → List ℕ) (k : ℕ) (heads links : List ℕ) (p : Indexed m key k heads links) where
   -- one more key of a bucket is not it
@@ -56,3 +58,10 @@ indexed_none m key heads links e = record {
   heads_last = λ h l. subst (Last m key h 0) (sym (ap (λ z. get_or z h 0) e ∙ get_or-replicate m h 0 0 l)) (record { within = omega arith; here = λ a. absurd (omega arith); past = λ i a c _. absurd (omega arith) });
   links_last = λ i l. absurd (omega arith);
 }
+
+-- one index from step to step
+pub same_on : {x y z : Index} → Same x y → Same y z → Same x z
+same_on p q = record { size = q.size ∙ p.size; most = q.most ∙ p.most; keys = q.keys ∙ p.keys }
+
+pub counts_up : {k k' i : ℕ} → (i < k → k' ≡ k) × (i ≡ k → k' ≡ k + 1) → i ≤ k → k ≤ k'
+counts_up {k} {k'} {i} p h = ⊎_elim (λ (o : i < k). omega (arith, p.0 o)) (λ (o : k ≤ i). omega (arith, p.1 (omega arith))) (cases_lt i k)

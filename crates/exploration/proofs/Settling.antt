@@ -1,10 +1,11 @@
 -- What a settled key makes of an exploration in memory: nothing more fits, an old row is led to, or a new one. Assumes nothing.
-use Rattle.std.proofs.Common.{◌≡◌, ℕ, ◌+◌, ◌-◌, ◌*◌, ◌<◌, ◌≤◌, List, [], ◌∷◌, ◌++◌, length, take, drop, set, sym, refl, ap, ◌∙◌, subst, arith, below_more}
-use Rattle.std.proofs.lemmas.List.{get_or-set_same, get_or-set_other}
+use Rattle.std.proofs.Common.{◌≡◌, ℕ, ◌+◌, ◌-◌, ◌*◌, ◌<◌, ◌≤◌, List, [], ◌∷◌, ◌++◌, length, take, drop, set, sym, refl, ap, ◌∙◌, subst, ⊎_elim, Option, arith, below_more}
+use Rattle.std.proofs.lemmas.Bool.{cases_eq}
+use Rattle.std.proofs.lemmas.List.{get_or-set_same, get_or-set_other, take_at}
 use Rattle.machines.specs.Columns.{Columns, shown}
 use Rattle.machines.specs.Systems.{Key, reach, Lawful, Pairwise}
 use Rattle.exploration.specs.Keys.{key_at, ClassIs}
-use Rattle.exploration.specs.Exploring.{word_at, Partly, On, TooMany, Complete}
+use Rattle.exploration.specs.Exploring.{word_at, Partly, On, TooMany, Complete, Says}
 use Rattle.machines.proofs.Cells.{row_long}
 use Rattle.exploration.proofs.RowParts.{with_row, row_set, row_wide, row_first}
 use Rattle.exploration.proofs.Steps.{begun, again, new_apart, new, same_shows, rekey, retable, good_reach, next_row, all_found, ended}
@@ -35,7 +36,7 @@ module _ {f : Key → ℕ → Key} {s : Key} {shows : Key → ℕ} {column least
         → On f s shows least count n k row c (row + 1) ks (with_row row t (set (take (257 * row + 257 - 257 * row) (drop (257 * row) t)) 0 v))
     part_shown v e h d w = subst (On f s shows least count n k row c (row + 1) ks) (row_first row t v (omega (arith, row_long row t w)) (omega arith)) (on_shown v e h d (omega arith))
 
-    module _ (ks' : List ℕ) (in_row : row < k) (in-columns : c < count) (key : Key) (is : key ≡ f (key_at ks n row) (least c)) where
+    module _ (in_row : row < k) (in-columns : c < count) (key : Key) (is : key ≡ f (key_at ks n row) (least c)) where
       pub settled_none : (most : ℕ) → k ≡ most → ((j : ℕ) → j < k → key_at ks n j ≡ key → ⊥) → TooMany f s most
       settled_none most e h = (
         on.words ++ (word_at on.words row ++ least c ∷ []) ∷ [],
@@ -43,7 +44,7 @@ module _ {f : Key → ℕ → Key} {s : Key} {shows : Key → ℕ} {column least
             (new_apart f s columns k row c (key_at ks n) t on.words on.partly in_row in-columns (λ i m q. h i m (q ∙ sym is))),
       )
 
-      module _ (most to : ℕ) (w : 257 * row + (1 + c) < length t) (h : ClassIs ks ks' n k most key to) (few : done ≤ k) where
+      module _ (ks' : List ℕ) (most to : ℕ) (w : 257 * row + (1 + c) < length t) (h : ClassIs ks ks' n k most key to) (few : done ≤ k) where
         kept_shown : (i : ℕ) → shown (set t (257 * row + (1 + c)) to) i ≡ shown t i
         kept_shown i = get_or-set_other t (257 * row + (1 + c)) (257 * i) to 0 (λ q. omega (arith, columns.few))
 
@@ -64,6 +65,17 @@ module _ {f : Key → ℕ → Key} {s : Key} {shows : Key → ℕ} {column least
           says = λ i m. kept_shown i ∙ on.says i m ∙ sym (same_shows f s columns k row c (key_at ks n) t on.words on.partly in_row in-columns shows i (omega arith));
         }
 
+-- a step from a key as it is kept
+pub step_from : (f : Key → ℕ → Key) {out x y : Key} {b : ℕ} → out ≡ f x b → x ≡ y → out ≡ f y b
+step_from f {b = b} p q = p ∙ ap (λ x. f x b) q
+
+-- the same numbers under other names
+pub on_as : {f : Key → ℕ → Key} {s : Key} {shows : Key → ℕ} {least : ℕ → ℕ} {m m' n n' k k' row c done : ℕ} {ks t : List ℕ} → m' ≡ m → n' ≡ n → k' ≡ k
+    → On f s shows least m n k row c done ks t → On f s shows least m' n' k' row c done ks t
+on_as {f} {s} {shows} {least} {m} {m'} {n} {n'} {k} {k'} {row} {c} {done} {ks} {t} p q r on =
+    subst (λ z. On f s shows least z n' k' row c done ks t) (sym p) (subst (λ z. On f s shows least m z k' row c done ks t) (sym q) (subst (λ z. On f s shows least m n z row c done ks t) (sym r) on))
+
+module _ {f : Key → ℕ → Key} {s : Key} {shows : Key → ℕ} {column least : ℕ → ℕ} {count : ℕ} (columns : Columns count column least) where
   -- from the start, and to the end
   pub on_begun : {n row : ℕ} {ks t : List ℕ} (key : Key) → 0 ≡ row → key_at ks n row ≡ key → key ≡ s → On f s shows least count n 1 row 0 row ks t
   on_begun {n} {row} {ks} {t} key z e is = subst (λ r. On f s shows least count n 1 r 0 r ks t) z
@@ -90,11 +102,27 @@ module _ {f : Key → ℕ → Key} {s : Key} {shows : Key → ℕ} {column least
   moved : with_row row t (set cells (1 + c) to) ≡ set (with_row row t cells) (257 * row + (1 + c)) to
   moved = row_set row t cells (1 + c) to (omega (arith, columns.few)) (omega arith)
 
-  pub part_old : (to ≡ k → ⊥) → On f s shows least count n k row (c + 1) done ks' (with_row row t (set cells (1 + c) to))
-  part_old old = subst (On f s shows least count n k row (c + 1) done ks') (sym moved) (settled_old columns on ks' in_row in-columns key is most to fits h few old)
+  part_old : (to ≡ k → ⊥) → On f s shows least count n k row (c + 1) done ks' (with_row row t (set cells (1 + c) to))
+  part_old old = subst (On f s shows least count n k row (c + 1) done ks') (sym moved) (settled_old columns on in_row in-columns key is ks' most to fits h few old)
 
-  pub part_new : to ≡ k → On f s shows least count n (k + 1) row (c + 1) done ks' (with_row row t (set cells (1 + c) to))
-  part_new e = subst (On f s shows least count n (k + 1) row (c + 1) done ks') (sym moved) (settled_new columns on ks' in_row in-columns key is most to fits h few e)
+  part_new : to ≡ k → On f s shows least count n (k + 1) row (c + 1) done ks' (with_row row t (set cells (1 + c) to))
+  part_new e = subst (On f s shows least count n (k + 1) row (c + 1) done ks') (sym moved) (settled_new columns on in_row in-columns key is ks' most to fits h few e)
+
+  pub part_settled : {k' : ℕ} → (to < k → k' ≡ k) × (to ≡ k → k' ≡ k + 1) → On f s shows least count n k' row (c + 1) done ks' (with_row row t (set cells (1 + c) to))
+  part_settled counts = ⊎_elim
+      (λ (e : to ≡ k). on_as refl refl (counts.1 e) (part_new e))
+      (λ (d : to ≡ k → ⊥). on_as refl refl (counts.0 (omega (arith, h.within, d))) (part_old d))
+      (cases_eq to k)
+
+-- of the same keys under other names
+pub says_as : (f : Key → ℕ → Key) (s : Key) (shows : Key → ℕ) (column : ℕ → ℕ) (count : ℕ) (t : List ℕ) (r : Option ℕ) {n n' most most' : ℕ} {keys keys' : List ℕ} → n ≡ n' → most ≡ most' → keys ≡ keys'
+    → Says f s shows column count n most keys t r → Says f s shows column count n' most' keys' t r
+says_as f s shows column count t r {n} {n'} {most} {most'} {keys} {keys'} p q e says =
+    subst (λ z. Says f s shows column count n' most' z t r) e (subst (λ z. Says f s shows column count n' z keys t r) q (subst (λ z. Says f s shows column count z most keys t r) p says))
+
+-- the front of what was lent
+pub front_of : (keys xs behind : List ℕ) (n : ℕ) → xs ≡ keys → length xs ≡ n → keys ≡ take n (xs ++ behind)
+front_of keys xs behind n e long = sym (take_at xs behind n long ∙ e)
 
 -- even the first key needs room
 pub none_fits : (f : Key → ℕ → Key) (s : Key) {column least : ℕ → ℕ} {count most : ℕ} → Columns count column least → 0 ≡ most → TooMany f s most

@@ -6,7 +6,7 @@
 --   On                   the same of keys and a table in memory, for some words, where the rows below done show what their keys show
 --   TooMany              more words than there is room for, and no two lead to one key
 --   Complete             all keys are found, and the table of their k rows is written
---   RowDone              a row is read, and the keys that are found are still in their buckets
+--   RowDone              a row is read, and the keys that are found are those of an index
 --   RowSays, Says        what is promised of a row, and of an exploration
 use Rattle.std.specs.Prelude.{◌≡◌, ℕ, ◌+◌, ◌*◌, ◌<◌, ◌≤◌, List, [], Some, None, Option, slice_index_or}
 use Rattle.machines.specs.Words.{Word}
@@ -15,7 +15,7 @@ use Rattle.machines.specs.Inside.{Inside}
 use Rattle.machines.specs.Minimal.{code}
 use Rattle.machines.specs.Systems.{Key, reach, Pairwise, Explored}
 use Rattle.exploration.specs.Keys.{key_at}
-use Rattle.exploration.specs.Hashed.{Indexed}
+use Rattle.exploration.specs.declared.index.Index.{Index}
 
 abbrev pub word_at : List Word → ℕ → Word
 word_at ws i = slice_index_or ws i []
@@ -49,15 +49,13 @@ pub record Complete (next : Key → ℕ → Key) (s : Key) (shows : Key → ℕ)
   pub explored : Explored next s k (key_at ks n) (leads column t)
   pub shows_keys : (i : ℕ) → i < k → shown t i ≡ shows (key_at ks n i)
 
-pub record RowDone (next : Key → ℕ → Key) (s : Key) (shows : Key → ℕ) (least : ℕ → ℕ) (count n most row k : ℕ) (ks t heads links : List ℕ) : Type 0 where
-  pub few : k ≤ most
-  pub there : row < k
-  pub indexed : Indexed 4096 (key_at ks n) k heads links
-  pub on : On next s shows least count n k (row + 1) 0 (row + 1) ks t
+pub record RowDone (next : Key → ℕ → Key) (s : Key) (shows : Key → ℕ) (least : ℕ → ℕ) (count row : ℕ) (x : Index) (t : List ℕ) : Type 0 where
+  pub there : row < x.count
+  pub on : On next s shows least count x.size x.count (row + 1) 0 (row + 1) x.keys.now t
 
-abbrev pub RowSays : (Key → ℕ → Key) → Key → (Key → ℕ) → (ℕ → ℕ) → ℕ → ℕ → ℕ → ℕ → List ℕ → List ℕ → List ℕ → List ℕ → Option ℕ → Type 0
-RowSays next s shows least count n most row ks t heads links None = TooMany next s most
-RowSays next s shows least count n most row ks t heads links (Some k) = RowDone next s shows least count n most row k ks t heads links
+abbrev pub RowSays : (Key → ℕ → Key) → Key → (Key → ℕ) → (ℕ → ℕ) → ℕ → ℕ → Index → List ℕ → Option (Unit {0}) → Type 0
+RowSays next s shows least count row x t None = TooMany next s x.most
+RowSays next s shows least count row x t (Some _) = RowDone next s shows least count row x t
 
 abbrev pub Says : (Key → ℕ → Key) → Key → (Key → ℕ) → (ℕ → ℕ) → ℕ → ℕ → ℕ → List ℕ → List ℕ → Option ℕ → Type 0
 Says next s shows column count n most ks t None = TooMany next s most

@@ -1,103 +1,96 @@
 // Breadth-first over the keys of a system: a table with a row for each key that is reached, in the order of the first words.
-ghost use Rattle.std.specs.Prelude.{◌≡◌, ℕ, ◌+◌, ◌-◌, ◌*◌, ◌^◌, ◌<◌, ◌≤◌, length, drop};
+ghost use Rattle.std.specs.Prelude.{◌≡◌, ℕ, ◌+◌, ◌-◌, ◌*◌, ◌^◌, ◌<◌, ◌≤◌, length, take, drop, MatchOption};
 ghost use Rattle.machines.specs.Columns.{Columns};
 ghost use Rattle.machines.specs.Systems.{Lawful};
-ghost use Rattle.exploration.specs.Keys.{key_at};
-ghost use Rattle.exploration.specs.Hashed.{Indexed};
+ghost use Rattle.exploration.specs.Standing.{Stands, Same};
 ghost use Rattle.exploration.specs.Exploring.{On, RowSays, Says};
 
+use crate::index::{BUCKETS, Index};
 use crate::system::System;
-use crate::{index, keys};
 
 // Writes a row: what its key shows, and for each column the row to go to, which may be a new one.
 fn explore_row<S: System>(
     sys: &S,
-    size: usize,
     columns: usize,
-    most: usize,
     row: usize,
-    found: usize,
-    keys: &mut [u32],
+    index: &mut Index<'_, '_, '_>,
     scratch: &mut [u32],
     table: &mut [u32],
-    heads: &mut [u32],
-    links: &mut [u32],
-) -> Option<usize>
+) -> Option<()>
     requires ready { S.System.ready sys.now }
-    requires lawful { Lawful (S.System.begin sys.now) (S.System.next sys.now) (S.System.good sys.now) (S.System.width sys.now) (S.System.column sys.now) (S.System.least sys.now) }
+    requires lawful { Lawful (S.System.begin sys.now) (S.System.next sys.now) (S.System.good sys.now) index.old.size (S.System.column sys.now) (S.System.least sys.now) }
     requires columns { Columns columns (S.System.column sys.now) (S.System.least sys.now) }
     requires count { columns ≡ S.System.count sys.now }
-    requires width { size ≡ S.System.width sys.now }
-    requires most { most < 2 ^ 32 - 1 }
-    requires found { found ≤ most }
-    requires row { row < found }
-    requires scratch { length scratch.old ≡ size }
-    requires keys { most * size ≤ length keys.old }
-    requires table { 257 * most ≤ length table.old }
-    requires heads { length heads.old ≡ 4096 }
-    requires links { most ≤ length links.old }
-    requires indexed { Indexed 4096 (key_at keys.old size) found heads.old links.old }
-    requires on { On (S.System.next sys.now) (S.System.begin sys.now) (S.System.shows sys.now) (S.System.least sys.now) columns size found row 0 row keys.old table.old }
-    ensures says { RowSays (S.System.next sys.now) (S.System.begin sys.now) (S.System.shows sys.now) (S.System.least sys.now) columns size most row keys.new table.new heads.new links.new result }
-    ensures rest { drop (257 * most) table.new ≡ drop (257 * most) table.old }
+    requires width { index.old.size ≡ S.System.width sys.now }
+    requires stands { Stands index.old }
+    requires row { row < index.old.count }
+    requires scratch { length scratch.old ≡ index.old.size }
+    requires table { 257 * index.old.most ≤ length table.old }
+    requires on { On (S.System.next sys.now) (S.System.begin sys.now) (S.System.shows sys.now) (S.System.least sys.now) columns index.old.size index.old.count row 0 row index.old.keys.now table.old }
+    ensures says { RowSays (S.System.next sys.now) (S.System.begin sys.now) (S.System.shows sys.now) (S.System.least sys.now) columns row index.new table.new result }
+    ensures stands { Stands index.new }
+    ensures same { Same index.old index.new }
+    ensures rest { drop (257 * index.old.most) table.new ≡ drop (257 * index.old.most) table.old }
 {
     let cells = &mut table[257 * row..257 * row + 257];
-    cells[0] = sys.show(keys::at(keys, size, row));
-    let mut count = found;
+    cells[0] = sys.show(index.key(row));
     for c in 0..columns {
-        sys.step(keys::at(keys, size, row), c, scratch);
-        match index::settle(keys, size, count, most, scratch, heads, links) {
-            None => {
-                return None;
-            }
-            Some(to) => {
-                cells[1 + c] = to.0 as u32;
-                if to.0 == count {
-                    count += 1;
-                }
-            }
-        }
+        sys.step(index.key(row), c, scratch);
+        let to = index.settle(scratch)?;
+        cells[1 + c] = to.0 as u32;
     }
-    Some(count)
+    Some(())
+}
+
+// Numbers the keys that the system reaches in an index that has none yet, and writes their rows.
+fn explore_all<S: System>(
+    sys: &S,
+    index: &mut Index<'_, '_, '_>,
+    scratch: &mut [u32],
+    table: &mut [u32],
+) -> Option<usize>
+    requires ready { S.System.ready sys.now }
+    requires lawful { Lawful (S.System.begin sys.now) (S.System.next sys.now) (S.System.good sys.now) index.old.size (S.System.column sys.now) (S.System.least sys.now) }
+    requires width { index.old.size ≡ S.System.width sys.now }
+    requires stands { Stands index.old }
+    requires none { index.old.count ≡ 0 }
+    requires scratch { length scratch.old ≡ index.old.size }
+    requires table { 257 * index.old.most ≤ length table.old }
+    ensures says { Says (S.System.next sys.now) (S.System.begin sys.now) (S.System.shows sys.now) (S.System.column sys.now) (S.System.count sys.now) index.old.size index.old.most index.new.keys.now table.new result }
+    ensures same { index.new.keys.ghost_name ≡ index.old.keys.ghost_name }
+    ensures rest { drop (257 * index.old.most) table.new ≡ drop (257 * index.old.most) table.old }
+{
+    let columns = sys.columns();
+    sys.start(scratch);
+    let first = index.settle(scratch)?;
+    let mut row = first.0;
+    // No `for`: the rows become more while they are read.
+    while row < index.count() {
+        explore_row(sys, columns, row, index, scratch, table)?;
+        row += 1;
+    }
+    Some(index.count())
 }
 
 // Numbers the keys that the system reaches, and writes the table of their rows; nothing if there are more than `most`.
 pub fn explore<S: System>(
     sys: &S,
     most: usize,
-    keys: &mut [u32],
-    scratch: &mut [u32],
     table: &mut [u32],
-    heads: &mut [u32],
-    links: &mut [u32],
+    work: &mut [u32],
 ) -> Option<usize>
     requires ready { S.System.ready sys.now }
     requires most { most < 2 ^ 32 - 1 }
-    requires scratch { length scratch.old ≡ S.System.width sys.now }
-    requires keys { most * S.System.width sys.now ≤ length keys.old }
     requires table { 257 * most ≤ length table.old }
-    requires heads { length heads.old ≡ 4096 }
-    requires links { most ≤ length links.old }
-    ensures says { Says (S.System.next sys.now) (S.System.begin sys.now) (S.System.shows sys.now) (S.System.column sys.now) (S.System.count sys.now) (S.System.width sys.now) most keys.new table.new result }
+    requires work { most * S.System.width sys.now + (S.System.width sys.now + (4096 + most)) ≤ length work.old }
+    ensures says { Says (S.System.next sys.now) (S.System.begin sys.now) (S.System.shows sys.now) (S.System.column sys.now) (S.System.count sys.now) (S.System.width sys.now) most (take (most * S.System.width sys.now) work.new) table.new result }
     ensures rest { drop (257 * most) table.new ≡ drop (257 * most) table.old }
 {
     let size = sys.size();
-    let columns = sys.columns();
-    sys.start(scratch);
-    heads.fill(0);
-    let Some(first) = index::settle(keys, size, 0, most, scratch, heads, links) else {
-        return None;
-    };
-    let mut count: usize = 1;
-    let mut row: usize = first.0;
-    while row < count {
-        let Some(more) = explore_row(
-            sys, size, columns, most, row, count, keys, scratch, table, heads, links,
-        ) else {
-            return None;
-        };
-        count = more;
-        row += 1;
-    }
-    Some(count)
+    let (keys, behind) = work.split_at_mut(most * size);
+    let (scratch, behind) = behind.split_at_mut(size);
+    let (heads, behind) = behind.split_at_mut(BUCKETS);
+    let (links, _) = behind.split_at_mut(most);
+    let mut index = Index::new(keys, size, most, heads, links);
+    explore_all(sys, &mut index, scratch, table)
 }

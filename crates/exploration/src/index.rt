@@ -1,10 +1,14 @@
-// Where a key stands among keys: an index of buckets in lent memory, each a chain of keys from the last one back.
+// Keys in lent words, and an index of buckets, each a chain of keys from the last one back.
 // In `heads` and `links` a key's number is one more than its class, and 0 ends a chain.
 ghost use Rattle.std.specs.Prelude.{◌≡◌, ℕ, ◌+◌, ◌-◌, ◌*◌, ◌^◌, ◌<◌, ◌≤◌, length};
 ghost use Rattle.exploration.specs.Keys.{key_at, Finds, Settled};
-ghost use Rattle.exploration.specs.Hashed.{hashed, Indexed, Reindexed};
+ghost use Rattle.exploration.specs.Hashed.{hashed};
+ghost use Rattle.exploration.specs.Standing.{Stands, Same, Counts};
 
 use crate::keys;
+
+// How many buckets an index has.
+pub const BUCKETS: usize = 4096;
 
 // A class's number: that of its key, and of its row in a table.
 #[derive(Clone, Copy)]
@@ -21,61 +25,101 @@ fn hash(key: &[u32]) -> u64
     h
 }
 
-// The class of `key` among the first `count` keys.
-pub fn find(
-    keys: &[u32],
+// The first `count` keys of `size` words each, with room for `most`. What holds of the parts is `Stands`, as a ghost field can't
+// stand beside a `&mut`; and the lifetimes are three, as one for all would lose what is left behind each.
+#[derive(Drop)]
+pub struct Index<'k, 'h, 'l> {
+    keys: &'k mut [u32],
     size: usize,
+    most: usize,
+    heads: &'h mut [u32],
+    links: &'l mut [u32],
     count: usize,
-    key: &[u32],
-    heads: &[u32],
-    links: &[u32],
-) -> Option<Class>
-    requires room { count * size ≤ length keys.now }
-    requires long { length key.now ≡ size }
-    requires buckets { length heads.now ≡ 4096 }
-    requires links { count ≤ length links.now }
-    requires indexed { Indexed 4096 (key_at keys.now size) count heads.now links.now }
-    ensures { Finds keys.now size count key.now result }
-{
-    let mut next = heads[(hash(key) % 4096) as usize] as usize;
-    while next > 0 {
-        if keys::at(keys, size, next - 1) == key {
-            return Some(Class(next - 1));
-        }
-        next = links[next - 1] as usize;
-    }
-    None
 }
 
-// The class of `key` among the first `count` keys, behind which it is put if it is new; nothing if `most` keys are there already.
-pub fn settle(
-    keys: &mut [u32],
-    size: usize,
-    count: usize,
-    most: usize,
-    key: &[u32],
-    heads: &mut [u32],
-    links: &mut [u32],
-) -> Option<Class>
-    requires count { count ≤ most }
-    requires most { most < 2 ^ 32 - 1 }
-    requires room { most * size ≤ length keys.old }
-    requires long { length key.now ≡ size }
-    requires buckets { length heads.old ≡ 4096 }
-    requires links { most ≤ length links.old }
-    requires indexed { Indexed 4096 (key_at keys.old size) count heads.old links.old }
-    ensures settled { Settled keys.old keys.new size count most key.now result }
-    ensures indexed { Reindexed 4096 (key_at keys.new size) count heads.new links.new result }
-{
-    if let Some(class) = find(keys, size, count, key, heads, links) {
-        return Some(class);
+impl<'k, 'h, 'l> Index<'k, 'h, 'l> {
+    // No keys, with room for so many.
+    pub fn new(
+        keys: &'k mut [u32],
+        size: usize,
+        most: usize,
+        heads: &'h mut [u32],
+        links: &'l mut [u32],
+    ) -> Index<'k, 'h, 'l>
+        requires most { most < 2 ^ 32 - 1 }
+        requires keys { most * size ≤ length keys.old }
+        requires heads { length heads.old ≡ 4096 }
+        requires links { most ≤ length links.old }
+        ensures stands { Stands result }
+        ensures none { result.count ≡ 0 }
+        ensures sizes { (result.size ≡ size) × (result.most ≡ most) }
+        ensures same { result.keys.ghost_name ≡ keys.entry.ghost_name }
+    {
+        heads.fill(0);
+        Index {
+            keys,
+            size,
+            most,
+            heads,
+            links,
+            count: 0,
+        }
     }
-    if count == most {
-        return None;
+
+    // How many keys there are.
+    pub(crate) fn count(&self) -> usize
+        ensures { result ≡ self.now.count }
+    {
+        self.count
     }
-    keys::put(keys, size, count, key);
-    let h = (hash(key) % 4096) as usize;
-    links[count] = heads[h];
-    heads[h] = (count + 1) as u32;
-    Some(Class(count))
+
+    // The key of a class.
+    pub fn key(&self, i: usize) -> &[u32]
+        requires stands { Stands self.now }
+        requires there { i < self.now.count }
+        ensures { (result.now ≡ key_at self.now.keys.now self.now.size i) × (length result.now ≡ self.now.size) }
+    {
+        keys::at(self.keys, self.size, i)
+    }
+
+    // The class of `key`.
+    pub fn find(&self, key: &[u32]) -> Option<Class>
+        requires stands { Stands self.now }
+        requires long { length key.now ≡ self.now.size }
+        ensures { Finds self.now.keys.now self.now.size self.now.count key.now result }
+    {
+        let mut next = self.heads[(hash(key) % BUCKETS as u64) as usize] as usize;
+        while next > 0 {
+            if self.key(next - 1) == key {
+                return Some(Class(next - 1));
+            }
+            next = self.links[next - 1] as usize;
+        }
+        None
+    }
+
+    // The class of `key`, which is put behind the other keys if it is new; nothing if there is no room for it.
+    pub fn settle(&mut self, key: &[u32]) -> Option<Class>
+        requires stands { Stands self.old }
+        requires long { length key.now ≡ self.old.size }
+        ensures settled { Settled self.old.keys.now self.new.keys.now self.old.size self.old.count self.old.most key.now result }
+        ensures counts { Counts self.old.count self.new.count result }
+        ensures stands { Stands self.new }
+        ensures same { Same self.old self.new }
+    {
+        if let Some(class) = self.find(key) {
+            return Some(class);
+        }
+        let count = self.count;
+        if count == self.most {
+            return None;
+        }
+        let keys = &mut *self.keys;
+        keys::put(keys, self.size, count, key);
+        let h = (hash(key) % BUCKETS as u64) as usize;
+        self.links[count] = self.heads[h];
+        self.heads[h] = (count + 1) as u32;
+        self.count = count + 1;
+        Some(Class(count))
+    }
 }

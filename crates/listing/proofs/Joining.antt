@@ -8,12 +8,12 @@ use Rattle.machines.specs.Laws.{SameKey}
 use Rattle.machines.proofs.Pigeons.{pairwise_many}
 use Rattle.machines.proofs.Firsts.{numbered_firsts, minimal_rows, explored_as}
 use Rattle.exploration.specs.Exploring.{Says}
-use Rattle.exploration.specs.Pairs.{pair_next}
-use Rattle.exploration.proofs.Paired.{pair_same, both_complete}
+use Rattle.exploration.specs.Pairs.{pair_next, pair_shows}
+use Rattle.exploration.proofs.Paired.{pair_same, pair_complete}
 use Rattle.patterns.specs.Patterns.{Pattern, matches}
 use Rattle.patterns.specs.Sizes.{Fits}
 use Rattle.patterns.specs.Searching.{anywhere, bit, ends, SameSearch}
-use Rattle.listing.specs.LastBit.{with_bit, longer_shows}
+use Rattle.listing.specs.LastBit.{with_bit}
 use Rattle.listing.specs.Listed.{Listed, NextSays, JoinSays}
 use Rattle.listing.proofs.Ends.{bit_small, residual_nerode, search_nerode, nerode_search, ends_last, ends_small, ends_more}
 use Rattle.listing.proofs.Fronts.{same_more, same_front, fit_more}
@@ -35,7 +35,7 @@ module _ (column : ℕ → ℕ) (c n : ℕ) (ps : List Pattern) (p : Pattern) (f
       )
 
   join_says : length ps < 32 → Fits n (anywhere p) → (width : ℕ) (keys t : List ℕ) (r : Option ℕ)
-      → Says (pair_next column front next) (0 ∷ 0 ∷ []) (longer_shows (length ps) front next) column c width n keys t r → NextSays column c ps p n t r
+      → Says (pair_next column front next) (0 ∷ 0 ∷ []) (pair_shows (with_bit (length ps)) front next) column c width n keys t r → NextSays column c ps p n t r
   join_says room fits width keys t None (ws, many) = λ qs (_, (firsts, classes, few)).
       pairwise_many (λ u v a b e. (pair_search u v a b).1 (same_front (ps ++ p ∷ []) qs u v e)) many classes few
   join_says room fits width keys t (Some k) X = record {
@@ -50,12 +50,12 @@ module _ (column : ℕ → ℕ) (c n : ℕ) (ps : List Pattern) (p : Pattern) (f
     where
       gives : Gives (ends (ps ++ p ∷ [])) (leads column t) (shown t)
       gives w ok =
-          both_complete column front next (with_bit (length ps)) (ends ps) (λ w. bit (matches (anywhere p) w)) L.minimal.gives R.gives X w ok
+          pair_complete column front next (with_bit (length ps)) (ends ps) (λ w. bit (matches (anywhere p) w)) L.minimal.gives R.gives X w ok
           ∙ with_bit_sum (length ps) (ends ps w) (bit (matches (anywhere p) w)) room (ends_small ps w) (bit_small (matches (anywhere p) w))
           ∙ sym (ends_more ps p w)
 
 pub joined : (column : ℕ → ℕ) (c n i fronts nexts width : ℕ) (front next keys t : List ℕ) (r : Option ℕ) → i < 32
-    → Says (pair_next column front next) (0 ∷ 0 ∷ []) (longer_shows i front next) column c width n keys t r → JoinSays column c n i fronts front nexts next t r
+    → Says (pair_next column front next) (0 ∷ 0 ∷ []) (pair_shows (with_bit i) front next) column c width n keys t r → JoinSays column c n i fronts front nexts next t r
 joined column c n i fronts nexts width front next keys t r room says ps p long L fits R =
     join_says column c n ps p front next L R (omega arith) fits width keys t r
-    (subst (λ z. Says (pair_next column front next) (0 ∷ 0 ∷ []) (longer_shows z front next) column c width n keys t r) (sym long) says)
+    (subst (λ z. Says (pair_next column front next) (0 ∷ 0 ∷ []) (pair_shows (with_bit z) front next) column c width n keys t r) (sym long) says)

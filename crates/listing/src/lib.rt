@@ -3,5 +3,5 @@
 #![tactic(auto)]
 
 pub mod join;
+pub mod last_bit;
 pub mod laws;
-pub mod longer;

@@ -3,6 +3,6 @@ use Rattle.listing.proofs.join.join_pattern.Goals as goal
 
 pub returns : goal.returns
 returns c = record {
-  says = joined _ _ _ _ _ _ 2 _ _ c.explore.new.keys _ _ c.requires.index c.explore.ensures.says;
+  says = joined _ _ _ _ _ _ 2 _ _ _ _ _ c.requires.index c.explore.ensures.says;
   rest = c.explore.ensures.rest;
 }

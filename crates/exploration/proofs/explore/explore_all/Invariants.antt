@@ -1,0 +1,17 @@
+use Rattle.std.proofs.Common.{◌≡◌, ◌-◌, ◌*◌, ◌≤◌, drop}
+use Rattle.exploration.specs.Standing.{Stands, Same}
+use Rattle.exploration.specs.Exploring.{On}
+use Rattle.exploration.proofs.explore.explore_all.Given as goal
+
+abbrev pub invariant-loop-row : goal.invariant-loop-row
+invariant-loop-row g l = record {
+  stands : Stands l.index;
+  same : Same l.fn.index l.index;
+  reached : l.row ≤ l.index.count;
+  on : On (g.S.System.next l.sys) (g.S.System.begin l.sys) (g.S.System.shows l.sys) (g.S.System.least l.sys) l.columns l.index.size l.index.count l.row 0 l.row l.index.keys.now l.table;
+  rest : drop (257 * l.fn.index.most) l.table ≡ drop (257 * l.fn.index.most) l.fn.table;
+}
+
+-- each row is read once, and there are at most so many
+abbrev pub decreases-loop-row : goal.decreases-loop-row
+decreases-loop-row g l = l.index.most - l.row
