@@ -1,6 +1,6 @@
 -- Parts of a pattern where they stand: in which order they come, what room they have, and what is known of the whole. Assumes nothing.
 --   Turns s next one other k room    two parts, worked out one after the other, each with the room that it needs
-use Rattle.std.proofs.Common.{◌≡◌, ◌⊎◌, ⊎_elim, ℕ, ◌+◌, ◌-◌, ◌*◌, ◌<◌, ◌≤◌, Bool, true, false, cond, ltb, List, [], ◌∷◌, length, get_or, Some, None, Option, sym, refl, ap, ◌∙◌, subst, arith}
+use Rattle.std.proofs.Common.{◌≡◌, ℕ, ◌+◌, ◌-◌, ◌*◌, ◌<◌, ◌≤◌, Bool, true, false, cond, ltb, List, [], ◌∷◌, length, get_or, Some, None, Option, sym, refl, ap, ◌∙◌, subst, arith}
 use Rattle.std.proofs.lemmas.Nat.{mul-le}
 use Rattle.std.proofs.lemmas.Bool.{ltb-true, ltb-false}
 use borrow.Rule.Slice.PartMut.{put_mid}
@@ -180,6 +180,10 @@ module _ {s : List ℕ} {at next : ℕ} (m : Binary) (r : NodeTo s at (node_of m
 pub says_done : (column : ℕ → ℕ) (c n : ℕ) (t : List ℕ) (p : Pattern) (x : Option ℕ) → (Fits n p → Top n p) → (Top n p → Fits n p) → StepSays column c p n t x → DoneSays column c p n t x
 says_done column c n t p None f g S = λ h. S (f h)
 says_done column c n t p (Some k) f g S = record { fits = g S.top; few = S.few; inside = S.inside; finished = S.finished }
+
+-- a part that doesn't fit is handed on as it is
+pub refused : (column : ℕ → ℕ) (c : ℕ) {n : ℕ} {s : List ℕ} {at : ℕ} (t : List ℕ) {x : Option ℕ} → x ≡ None → ((p : Pattern) (stop : ℕ) → PatternAt s at p stop → Fits n p → ⊥) → WorkedSays column c s at n t x
+refused column c {n} t e none p stop h = subst (DoneSays column c p n t) (sym e) (none p stop h)
 
 -- both are finished, each where it stands on the stack
 abbrev pub part_at : ℕ → ℕ → Part

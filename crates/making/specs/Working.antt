@@ -7,7 +7,7 @@
 --   TwoSays                    for the node over every two patterns that stand there, one behind the other
 --   AnywhereSays               for every pattern that stands at the place, searched anywhere
 --   Sides, Ordered             of two parts the one that needs more tables is worked out first
-use Rattle.std.specs.Prelude.{◌≡◌, ℕ, ◌*◌, ◌<◌, ◌≤◌, List, length, Some, None, Option}
+use Rattle.std.specs.Prelude.{◌≡◌, ℕ, ◌*◌, ◌<◌, ◌≤◌, List, Some, None, Option}
 use Rattle.machines.specs.Inside.{Inside}
 use Rattle.patterns.specs.Patterns.{Pattern, seq}
 use Rattle.patterns.specs.Promises.{PatternAt}

@@ -99,10 +99,24 @@ pub fn work_out(
         }
         Node::Sequence => two_parts(plan, Binary::Followed, next, most, stack, work),
         Node::Union => {
-            two_parts(plan, Binary::Connected(Connective::Or), next, most, stack, work)
+            two_parts(
+                plan,
+                Binary::Connected(Connective::Or),
+                next,
+                most,
+                stack,
+                work,
+            )
         }
         Node::Intersection => {
-            two_parts(plan, Binary::Connected(Connective::And), next, most, stack, work)
+            two_parts(
+                plan,
+                Binary::Connected(Connective::And),
+                next,
+                most,
+                stack,
+                work,
+            )
         }
     }
 }

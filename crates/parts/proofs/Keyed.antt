@@ -1,6 +1,6 @@
 -- A system whose keys are exactly what the step at a pattern's top must tell apart. Assumes nothing.
 --   Keyed p next s    two words lead to one key exactly if the step at p's top doesn't tell them apart
-use Rattle.std.proofs.Common.{◌≡◌, ℕ, Bool, true, false, ◌↔◌, List, [], ◌∷◌, ◌++◌, sym, refl, ap, ◌∙◌, arith}
+use Rattle.std.proofs.Common.{◌≡◌, ℕ, Bool, true, false, ◌↔◌, List, [], ◌∷◌, ◌++◌, None, Option, sym, refl, ap, ◌∙◌, subst, arith}
 use Rattle.std.proofs.lemmas.List.{append-nil}
 use Rattle.machines.specs.Words.{Word, Bytes}
 use Rattle.machines.specs.Columns.{Columns, shown, leads}
@@ -21,7 +21,7 @@ use Rattle.patterns.specs.Patterns.{Pattern, matches}
 use Rattle.patterns.specs.Residuals.{Of, SameResidual}
 use Rattle.patterns.specs.Searching.{bit}
 use Rattle.patterns.specs.Sizes.{Indistinct, Top}
-use Rattle.parts.specs.Steps.{Finished, Distinguished, StepDone}
+use Rattle.parts.specs.Steps.{Finished, Distinguished, StepDone, StepSays}
 use Rattle.parts.specs.Told.{ToldApart}
 
 pub bit_same : (a b : Bool) → bit a ≡ bit b → a ≡ b
@@ -73,8 +73,11 @@ pub record Keyed (p : Pattern) (next : Key → ℕ → Key) (s : Key) : Type 0 w
 
 module _ {p : Pattern} {next : Key → ℕ → Key} {s : Key} (K : Keyed p next s) where
   -- more keys than n are more classes than n
-  pub step_many : {n : ℕ} → TooMany next s n → Top n p → ⊥
+  step_many : {n : ℕ} → TooMany next s n → Top n p → ⊥
   step_many (ws, w) (firsts, cs, few) = pairwise_many (λ u v a b e. (K.keys u v a b).1 e) w cs few
+
+  pub step_refused : (column : ℕ → ℕ) (c n : ℕ) (t : List ℕ) {r : Option ℕ} → r ≡ None → TooMany next s n → StepSays column c p n t r
+  step_refused column c n t e many = subst (StepSays column c p n t) (sym e) (step_many many)
 
   -- the table of the blocks is the pattern's, and its classes are the keys that were found
   pub step_done : {shows : Key → ℕ} {column least : ℕ → ℕ} {c n k m : ℕ} {raw block t : List ℕ} → ((w : Word) → Bytes w → shows (reach next s w) ≡ bit (matches p w))

@@ -28,7 +28,13 @@ pub fn distinguish<S: System>(sys: &S, most: usize, work: &mut [u32]) -> Option<
 }
 
 // Writes the table of the blocks that were found in `work`, a row for each.
-pub fn join_blocks(columns: usize, rows: usize, most: usize, work: &mut [u32], tables: &mut [u32]) -> usize
+pub fn join_blocks(
+    columns: usize,
+    rows: usize,
+    most: usize,
+    work: &mut [u32],
+    tables: &mut [u32],
+) -> usize
     requires rows { rows ≤ most }
     requires most { Few most }
     requires inside { Inside columns rows (raw_area most work.old) }

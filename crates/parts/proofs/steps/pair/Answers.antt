@@ -1,17 +1,16 @@
 use Rattle.std.proofs.Common.{ℕ, [], ◌∷◌, get_or}
-use Rattle.exploration.specs.Pairs.{pair_next, pair_shows}
-use Rattle.parts.specs.Steps.{Distinguishes}
-use Rattle.parts.proofs.Rooms.{part_within, both_words}
+use Rattle.exploration.specs.Pairs.{joined, pair_next, pair_shows}
+use Rattle.parts.specs.Combining.{part_words}
+use Rattle.parts.specs.Steps.{raw_area, block_area, Distinguishes}
+use Rattle.parts.proofs.Distinguishing.{of_table}
 use Rattle.parts.proofs.steps.pair.Goals as goal
-
-pub words-requires : goal.words-requires
-words-requires c = part_within c.args.first.at c.args.tables.now c.requires.first
-
-pub words-requires-2 : goal.words-requires-2
-words-requires-2 c = part_within c.args.second.at c.args.tables.now c.requires.second
 
 pub returns : goal.returns
 returns c =
     let column : ℕ → ℕ = λ b. get_or c.args.columns.column.now b 0 in
-    both_words (λ l r. Distinguishes (pair_next column l r) (0 ∷ 0 ∷ []) (pair_shows c.args.join l r) column c.args.columns.count c.args.most c.distinguish.new.raw c.distinguish.new.block c.distinguish.result)
-    c.words.ensures c.words-2.ensures c.distinguish.ensures
+    let n = c.args.most in
+    let w = c.distinguish.new.work in
+    let r = part_words c.args.second c.args.tables.now in
+    of_table (λ l _ _. Distinguishes (pair_next column l r) (0 ∷ 0 ∷ []) (pair_shows (joined c.args.join) l r) column c.args.columns.count n (raw_area n w) (block_area n w) c.distinguish.result) c.table_of.ensures
+    (of_table (λ r _ _. Distinguishes (pair_next column c.table_of.result.words.now r) (0 ∷ 0 ∷ []) (pair_shows (joined c.args.join) c.table_of.result.words.now r) column c.args.columns.count n (raw_area n w) (block_area n w) c.distinguish.result)
+    c.table_of-2.ensures c.distinguish.ensures)

@@ -1,25 +1,14 @@
-use Rattle.std.proofs.Common.{ℕ, ◌+◌, ◌/◌, length, get_or, subst, arith}
+use Rattle.std.proofs.Common.{ℕ, ◌+◌, ◌/◌, Option, get_or}
+use Rattle.refinement.specs.DeadRows.{DeadRow}
 use Rattle.subsets.specs.Sets.{again, whole}
-use Rattle.parts.specs.Steps.{Distinguishes}
-use Rattle.parts.proofs.Rooms.{room_width, part_within, inside_words}
+use Rattle.parts.specs.Steps.{raw_area, block_area, Distinguishes}
+use Rattle.parts.proofs.Distinguishing.{of_table}
 use Rattle.parts.proofs.steps.repeat.Goals as goal
-
-pub words-requires : goal.words-requires
-words-requires c = part_within c.args.part.at c.args.tables.now c.requires.part
-
-pub distinguish-requires : goal.distinguish-requires
-distinguish-requires c = record {
-  ready = (c.requires.columns.columns, inside_words c.words.ensures c.requires.part);
-  most = c.requires.room.small;
-  raw = c.requires.room.raw;
-  block = c.requires.room.block;
-  work = room_width c.args.most (1 + (c.args.part.rows / 32 + 1)) (length c.args.work.now) (omega (arith, c.requires.few)) c.requires.room.work;
-}
 
 pub returns : goal.returns
 returns c =
     let column : ℕ → ℕ = λ b. get_or c.args.columns.column.now b 0 in
-    let n = c.args.part.rows in
-    let d = c.args.dead in
-    subst (λ t. Distinguishes (λ k b. again t d (n / 32 + 1) n k (column b)) (whole d (n / 32 + 1)) (λ k. get_or k 0 0) column c.args.columns.count c.args.most c.distinguish.new.raw c.distinguish.new.block c.distinguish.result)
-    c.words.ensures c.distinguish.ensures
+    let n = c.args.most in
+    let w = c.distinguish.new.work in
+    of_table (λ t a k. (d : Option ℕ) × DeadRow a k t d × Distinguishes (λ x b. again t d (k / 32 + 1) k x (column b)) (whole d (k / 32 + 1)) (λ x. get_or x 0 0) column c.args.columns.count n (raw_area n w) (block_area n w) c.distinguish.result)
+    c.table_of-table.ensures (c.dead_row.result, c.dead_row.ensures, c.distinguish.ensures)

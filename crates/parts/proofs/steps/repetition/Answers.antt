@@ -1,21 +1,18 @@
 use Rattle.std.proofs.Common.{◌+◌, ◌/◌}
-use Rattle.parts.proofs.Keyed.{step_many, step_done}
-use Rattle.parts.proofs.Rooms.{set_room, part_within, dead_words}
+use Rattle.parts.proofs.Keyed.{step_refused, step_done}
+use Rattle.parts.proofs.Rooms.{set_room}
 use Rattle.parts.proofs.Repetitions.{star_keyed, star_says}
 use Rattle.parts.proofs.steps.repetition.Goals as goal
 
-pub words-requires : goal.words-requires
-words-requires c = part_within c.args.part.at c.args.tables.now c.requires.part
-
-pub returns-in_default : goal.returns-in_default
-returns-in_default c = λ p F.
+pub returns-in_err-rows : goal.returns-in_err-rows
+returns-in_err-rows c = λ p F.
     let n = c.args.part.rows in
-    let D = dead_words c.words.ensures c.dead_row-dead.ensures in
-    step_many (star_keyed (n / 32 + 1) c.requires.columns.columns F D (set_room n)) c.in_default.ensures
+    let (d, D, many) = c.in_err-rows.ensures in
+    step_refused (star_keyed (n / 32 + 1) c.args.columns.sound F D (set_room n)) _ _ _ _ c.from_residual.ensures many
 
 pub returns : goal.returns
 returns c = λ p F.
     let n = c.args.part.rows in
-    let C = c.requires.columns.columns in
-    let D = dead_words c.words.ensures c.dead_row-dead.ensures in
-    step_done (star_keyed (n / 32 + 1) C F D (set_room n)) (star_says (n / 32 + 1) C F D (set_room n)) C c.in-Some.ensures c.quotient.ensures
+    let C = c.args.columns.sound in
+    let (d, D, found) = c.in_ok-rows.ensures in
+    step_done (star_keyed (n / 32 + 1) C F D (set_room n)) (star_says (n / 32 + 1) C F D (set_room n)) C found c.join_blocks.ensures

@@ -1,21 +1,18 @@
 use Rattle.std.proofs.Common.{◌+◌, ◌/◌}
-use Rattle.parts.proofs.Keyed.{step_many, step_done}
-use Rattle.parts.proofs.Rooms.{set_room, part_within, dead_words}
+use Rattle.parts.proofs.Keyed.{step_refused, step_done}
+use Rattle.parts.proofs.Rooms.{set_room}
 use Rattle.parts.proofs.Sequences.{seq_keyed, seq_says}
 use Rattle.parts.proofs.steps.sequence.Goals as goal
 
-pub words-requires : goal.words-requires
-words-requires c = part_within c.args.second.at c.args.tables.now c.requires.second
-
-pub returns-in_default : goal.returns-in_default
-returns-in_default c = λ p q F G.
+pub returns-in_err-rows : goal.returns-in_err-rows
+returns-in_err-rows c = λ p q F G.
     let n = c.args.second.rows in
-    let D = dead_words c.words.ensures c.dead_row-dead.ensures in
-    step_many (seq_keyed (n / 32 + 1) c.requires.columns.columns F G D (set_room n)) c.in_default.ensures
+    let (d, D, many) = c.in_err-rows.ensures in
+    step_refused (seq_keyed (n / 32 + 1) c.args.columns.sound F G D (set_room n)) _ _ _ _ c.from_residual.ensures many
 
 pub returns : goal.returns
 returns c = λ p q F G.
     let n = c.args.second.rows in
-    let C = c.requires.columns.columns in
-    let D = dead_words c.words.ensures c.dead_row-dead.ensures in
-    step_done (seq_keyed (n / 32 + 1) C F G D (set_room n)) (seq_says (n / 32 + 1) C F G D (set_room n)) C c.in-Some.ensures c.quotient.ensures
+    let C = c.args.columns.sound in
+    let (d, D, found) = c.in_ok-rows.ensures in
+    step_done (seq_keyed (n / 32 + 1) C F G D (set_room n)) (seq_says (n / 32 + 1) C F G D (set_room n)) C found c.join_blocks.ensures
