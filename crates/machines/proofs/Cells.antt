@@ -1,9 +1,11 @@
 -- What stands in a list, as an option and with a default, and a sound table said in either way. Assumes nothing.
-use Rattle.std.proofs.Common.{◌≡◌, ℕ, zero, suc, ◌+◌, ◌-◌, ◌*◌, ◌<◌, ◌≤◌, List, [], ◌∷◌, length, get_or, take, drop, sym, refl, ap, ◌∙◌, arith}
+use Rattle.std.proofs.Common.{◌≡◌, ℕ, zero, suc, ◌+◌, ◌-◌, ◌*◌, ◌<◌, ◌≤◌, List, [], ◌∷◌, length, get_or, take, drop, sym, refl, ap, ◌∙◌, subst, arith, All}
 use mathlib.Core.Option.{some}
-use Rattle.std.proofs.lemmas.List.{places, length-take, length-drop}
+use Rattle.std.proofs.lemmas.List.{places, length-take, length-drop, get_or-take, get_or-drop}
 use Rattle.machines.specs.Classes.{nth}
 use Rattle.machines.specs.Tables.{SoundTable, LeadsInside, or0}
+use Rattle.std.proofs.lemmas.List.Elements.{All-get_or, All-from_get_or}
+use Rattle.machines.specs.Columns.{cell}
 use Rattle.machines.proofs.Places.{nth_read}
 
 pub or0_nth : (t : List ℕ) (p : ℕ) → or0 (nth t p) ≡ get_or t p 0
@@ -15,8 +17,8 @@ pub nth_get_or : (t : List ℕ) (p : ℕ) → p < length t → nth t p ≡ some 
 nth_get_or t p h = nth_read t 0 p h
 
 -- a cell of a row that is read as a part of the table
-pub row_cell : (t : List ℕ) (from p : ℕ) → p < 257 → get_or (take ((from + 257) - from) (drop from t)) p 0 ≡ get_or t (from + p) 0
-row_cell t from p h = grind (arith, places)
+pub row_cell : (t : List ℕ) (from p : ℕ) → p < 257 → get_or (take 257 (drop from t)) p 0 ≡ get_or t (from + p) 0
+row_cell t from p h = get_or-take 257 (drop from t) p 0 h ∙ get_or-drop from t p 0
 
 pub row_long : (i : ℕ) (t : List ℕ) → 257 * i + 257 ≤ length t → length (take (257 * i + 257 - 257 * i) (drop (257 * i) t)) ≡ 257
 row_long i t h = simp (length-take, length-drop) (omega arith)
@@ -29,3 +31,23 @@ inside_sound k t e f = record {
 
 pub sound_inside : (k : ℕ) (t : List ℕ) → SoundTable k t → LeadsInside k t
 sound_inside k t s i hi b hb = s.goes i b (get_or t (257 * i + (1 + b)) 0) hi hb (nth_get_or t (257 * i + (1 + b)) (omega (arith, s.long)))
+
+-- the first cells of a row, read as a part of the table
+pub row_cells : (t : List ℕ) (i c j : ℕ) → j < c → get_or (take ((257 * i + 1 + c) - (257 * i + 1)) (drop (257 * i + 1) t)) j 0 ≡ cell t i j
+row_cells t i c j h = grind (arith, places)
+
+pub cells_all : (t : List ℕ) (i c k : ℕ) → 257 * i + 257 ≤ length t → c ≤ 256
+    → All (λ to. to < k) (take ((257 * i + 1 + c) - (257 * i + 1)) (drop (257 * i + 1) t)) → (j : ℕ) → j < c → cell t i j < k
+cells_all t i c k h few all j l =
+    subst (λ x. x < k) (row_cells t i c j l) (All-get_or (λ to. to < k) _ j 0 (omega (arith, long)) all)
+  where
+    long : length (take ((257 * i + 1 + c) - (257 * i + 1)) (drop (257 * i + 1) t)) ≡ c
+    long = simp (length-take, length-drop) (omega arith)
+
+pub all_cells : (t : List ℕ) (i c k : ℕ) → 257 * i + 257 ≤ length t → c ≤ 256 → ((j : ℕ) → j < c → cell t i j < k)
+    → All (λ to. to < k) (take ((257 * i + 1 + c) - (257 * i + 1)) (drop (257 * i + 1) t))
+all_cells t i c k h few each =
+    All-from_get_or (λ to. to < k) _ 0 (λ j l. subst (λ x. x < k) (sym (row_cells t i c j (omega (arith, long)))) (each j (omega (arith, long))))
+  where
+    long : length (take ((257 * i + 1 + c) - (257 * i + 1)) (drop (257 * i + 1) t)) ≡ c
+    long = simp (length-take, length-drop) (omega arith)

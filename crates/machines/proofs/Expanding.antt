@@ -16,17 +16,14 @@ pub record RowPartly (column : ℕ → ℕ) (r r' : List ℕ) (b : ℕ) : Type 0
 pub row_begun : {column : ℕ → ℕ} (r r' : List ℕ) → 0 < length r' → RowPartly column r (set r' 0 (get_or r 0 0)) 0
 row_begun r r' h = record { shows = get_or-set_same r' 0 (get_or r 0 0) 0 h; on = λ a l. absurd (omega arith) }
 
-pub row_more : {column : ℕ → ℕ} {r r' : List ℕ} {b : ℕ} → 1 + b < length r' → RowPartly column r r' b
-    → RowPartly column r (set r' (1 + b) (get_or r (1 + column b) 0)) (b + 1)
-row_more {column = column} {r = r} {r' = r'} {b = b} h P = record {
+pub row_more : {column : ℕ → ℕ} {r r' : List ℕ} {b x : ℕ} → 1 + b < length r' → x ≡ get_or r (1 + column b) 0 → RowPartly column r r' b
+    → RowPartly column r (set r' (1 + b) x) (b + 1)
+row_more {column = column} {r = r} {r' = r'} {b = b} {x = x} h e P = record {
   shows = get_or-set_other r' (1 + b) 0 x 0 (omega arith) ∙ P.shows;
   on = below_more (λ a. get_or (set r' (1 + b) x) (1 + a) 0 ≡ get_or r (1 + column a) 0) b
       (λ a l. get_or-set_other r' (1 + b) (1 + a) x 0 (omega arith) ∙ P.on a l)
-      (get_or-set_same r' (1 + b) x 0 h);
+      (get_or-set_same r' (1 + b) x 0 h ∙ e);
 }
-  where
-    x : ℕ
-    x = get_or r (1 + column b) 0
 
 pub row_all : {column : ℕ → ℕ} {r r' : List ℕ} {b : ℕ} → 256 ≤ b → RowPartly column r r' b → RowExpanded column r r'
 row_all h P = record { shows = P.shows; on = λ a l. P.on a (omega arith) }
@@ -40,16 +37,16 @@ pub record PartlyExpanded (column : ℕ → ℕ) (k : ℕ) (raw t t' : List ℕ)
 pub expanded_none : {column : ℕ → ℕ} {raw t : List ℕ} → PartlyExpanded column 0 raw t t
 expanded_none = record { shows = λ i l. absurd (omega arith); on = λ i l. absurd (omega arith); rest = refl }
 
-pub expanded_more : {column : ℕ → ℕ} {raw t t' : List ℕ} {k : ℕ} (row : List ℕ) → ((b : ℕ) → b < 256 → column b < 256) → 257 * k + 257 ≤ length t'
-    → length row ≡ 257 → RowExpanded column (take (257 * k + 257 - 257 * k) (drop (257 * k) raw)) row → PartlyExpanded column k raw t t'
+pub expanded_more : {column : ℕ → ℕ} {raw t t' r : List ℕ} {k : ℕ} (row : List ℕ) → r ≡ take 257 (drop (257 * k) raw) → ((b : ℕ) → b < 256 → column b < 256) → 257 * k + 257 ≤ length t'
+    → length row ≡ 257 → RowExpanded column r row → PartlyExpanded column k raw t t'
     → PartlyExpanded column (k + 1) raw t (put_mid (257 * k) (257 * k + 257 - 257 * k) t' row)
-expanded_more {column = column} {raw = raw} {t = t} {t' = t'} {k = k} row within room long R P = record {
+expanded_more {column = column} {raw = raw} {t = t} {t' = t'} {r = r} {k = k} row e within room long R P = record {
   shows = below_more (λ i. shown u i ≡ shown raw i) k
       (λ i l. before (257 * i) (omega arith) ∙ P.shows i l)
-      (ap (λ p. get_or u p 0) first ∙ here 0 (omega arith) ∙ R.shows ∙ row_cell raw (257 * k) 0 (omega arith) ∙ ap (λ p. get_or raw p 0) (sym first));
+      (ap (λ p. get_or u p 0) first ∙ here 0 (omega arith) ∙ R.shows ∙ there 0 (omega arith) ∙ ap (λ p. get_or raw p 0) (sym first));
   on = below_more (λ i. (b : ℕ) → b < 256 → cell u i b ≡ cell raw i (column b)) k
       (λ i l b m. before (257 * i + (1 + b)) (omega arith) ∙ P.on i l b m)
-      (λ b m. here (1 + b) (omega arith) ∙ R.on b m ∙ row_cell raw (257 * k) (1 + column b) (omega (arith, within b m)));
+      (λ b m. here (1 + b) (omega arith) ∙ R.on b m ∙ there (1 + column b) (omega (arith, within b m)));
   rest = drop-put_mid (257 * k) (257 * k + 257 - 257 * k) t' row (257 * (k + 1)) (omega arith) (omega arith) (omega arith) ∙ on_to t' ∙ ap (drop 257) P.rest ∙ sym (on_to t);
 }
   where
@@ -70,6 +67,9 @@ expanded_more {column = column} {raw = raw} {t = t} {t' = t'} {k = k} row within
 
     here : (p : ℕ) → p < 257 → get_or u (257 * k + p) 0 ≡ get_or row p 0
     here p l = grind (arith, places)
+
+    there : (p : ℕ) → p < 257 → get_or r p 0 ≡ get_or raw (257 * k + p) 0
+    there p l = ap (λ s. get_or s p 0) e ∙ row_cell raw (257 * k) p l
 
 pub expanded_all : {column : ℕ → ℕ} {raw t t' : List ℕ} {i k : ℕ} → i ≡ k → PartlyExpanded column i raw t t' → Expanded column k raw t t'
 expanded_all {column = column} {raw = raw} {t = t} {t' = t'} {k = k} e partly = record {

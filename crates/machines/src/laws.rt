@@ -3,57 +3,41 @@ ghost use Rattle.machines.specs.Dead.{DeadRows};
 ghost use Rattle.machines.specs.Laws.{Exact, OneTable, LeastTable, HasTable, MinimalTable, Crowded, KeyClasses};
 
 // A table of f's classes shows f after every text, in any pieces, and its rows are the classes.
-pub fn exact_stands() -> u8
+pub fn exact_stands()
     ensures { Exact }
-{
-    0
-}
+{}
 
 // An output function has one table at most, first words and numbers.
-pub fn one_table_stands() -> u8
+pub fn one_table_stands()
     ensures { OneTable }
-{
-    0
-}
+{}
 
 // No table gives f with fewer rows than f has classes.
-pub fn least_table_stands() -> u8
+pub fn least_table_stands()
     ensures { LeastTable }
-{
-    0
-}
+{}
 
 // An output function that some sound table gives has its table.
-pub fn has_table_stands() -> u8
+pub fn has_table_stands()
     ensures { HasTable }
-{
-    0
-}
+{}
 
 // A minimal machine in memory is the one table of its function.
-pub fn minimal_table_stands() -> u8
+pub fn minimal_table_stands()
     ensures { MinimalTable }
-{
-    0
-}
+{}
 
 // In a minimal machine each row is live, with a word after which something is shown, or the one dead row.
-pub fn dead_rows_stand() -> u8
+pub fn dead_rows_stand()
     ensures { DeadRows }
-{
-    0
-}
+{}
 
 // n + 1 words of which no two are in one class refute that there are n classes; where a test decides, one or the other holds.
-pub fn crowded_stands() -> u8
+pub fn crowded_stands()
     ensures { Crowded }
-{
-    0
-}
+{}
 
 // The keys of a system part the words into classes, as many as keys are reached.
-pub fn key_classes_stand() -> u8
+pub fn key_classes_stand()
     ensures { KeyClasses }
-{
-    0
-}
+{}

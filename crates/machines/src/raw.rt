@@ -1,5 +1,5 @@
 // A table on the way: rows at a stride of 257, of which the columns in use stand first.
-ghost use Rattle.std.specs.Prelude.{◌≡◌, ◌+◌, ◌*◌, ◌^◌, ◌<◌, take, drop, MatchOption};
+ghost use Rattle.std.specs.Prelude.{◌≡◌, ◌+◌, ◌*◌, ◌^◌, ◌<◌, length, take, drop, MatchOption};
 ghost use Rattle.machines.specs.Columns.{cell, shown};
 ghost use Rattle.machines.specs.Inside.{Inside};
 
@@ -71,6 +71,16 @@ impl<'a> RawTable<'a> {
     {
         let words = self.words;
         words[257 * row + (1 + column)] as usize
+    }
+
+    // A row's words: what it shows, then its cells.
+    pub fn row(self, row: usize) -> &'a [u32]
+        requires { row < self.rows }
+        ensures words { result.now ≡ take 257 (drop (257 * row) self.entry.words.now) }
+        ensures long { length result.now ≡ 257 }
+    {
+        let words = self.words;
+        &words[257 * row..257 * row + 257]
     }
 
     // The rows to which the columns lead from a row, one after the other.

@@ -2,6 +2,8 @@
 ghost use Rattle.std.specs.Prelude.{◌≡◌, ℕ, ◌+◌, ◌*◌, ◌<◌, ◌≤◌, true, ◌↔◌, length, take, drop};
 ghost use Rattle.machines.specs.Tables.{SoundTable, LeadsInside, walk, seen};
 
+use crate::inside::rows_lead_inside;
+
 // A row's number.
 #[derive(Clone, Copy)]
 pub struct Row(pub usize);
@@ -22,15 +24,7 @@ pub fn is_table(words: &[u32], rows: usize) -> bool
     if words.len() % 257 != 0 || words.len() / 257 != rows {
         return false;
     }
-    for i in 0..rows {
-        let row = &words[257 * i..257 * i + 257];
-        for b in 0..256 {
-            if row[1 + b] as usize >= rows {
-                return false;
-            }
-        }
-    }
-    true
+    rows_lead_inside(words, 256, rows)
 }
 
 impl<'a> Table<'a> {

@@ -7,7 +7,7 @@ pub loop-i-init : goal.loop-i-init
 loop-i-init c = expanded_none
 
 pub loop-i-preserved : goal.loop-i-preserved
-loop-i-preserved c = expanded_more c.expand_row.new.row (λ b l. omega (arith, c.requires.within b l)) (omega arith)
+loop-i-preserved c = expanded_more c.expand_row.new.row c.row.ensures.words (λ b l. omega (arith, c.requires.within b l)) (omega arith)
     (c.expand_row.auto.row ∙ row_long c.loop-i.i c.loop-i.table (omega arith)) c.expand_row.ensures c.loop-i.invariant
 
 pub returns : goal.returns
