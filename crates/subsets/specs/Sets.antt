@@ -2,7 +2,7 @@
 --   has ws q, add ws q        whether q is in a set; the set with q
 --   add_live ws q d           the set with q, unless q is d
 --   Lacks ws q r              no number of the set from q up is below r
---   Next ws q n r s           r is the least number of the set from q up and below n, with s behind it, or there is none
+--   Next ws q n o             o is the least number of the set from q up and below n, if there is one
 --   moved t d a ws m n        where column a of a table leads from the numbers below n of a set, as a set of m words
 --   accepts t ws n            whether a row of the set, below n, shows 1
 --   marks c d ws              row 0 too, if there is a mark
@@ -10,7 +10,7 @@
 --                             a key is a row of the first and the set of the second's rows
 --   again, whole              a table read from the start and again from each place where it shows 1: a key is whether
 --                             it shows 1, and the set of its rows
-use Rattle.std.specs.Prelude.{◌≡◌, ℕ, zero, suc, ◌/◌, ◌+◌, ◌%◌, ◌^◌, ◌<◌, ◌≤◌, Bool, true, false, cond, ◌&&◌, ◌||◌, ◌==◌, Option, Some, None, MatchOption, List, ◌∷◌, drop, replicate, bit_or, slice_index, slice_set}
+use Rattle.std.specs.Prelude.{◌≡◌, ℕ, zero, suc, ◌/◌, ◌%◌, ◌^◌, ◌<◌, ◌≤◌, Bool, true, false, cond, ◌&&◌, ◌||◌, ◌==◌, Option, Some, None, MatchOption, List, ◌∷◌, drop, replicate, bit_or, slice_index, slice_set}
 use Rattle.std.specs.Int.{bit_at}
 use Rattle.machines.specs.Columns.{cell, shown}
 
@@ -27,15 +27,14 @@ add_live ws q (Some d) = cond (q == d) ws (add ws q)
 abbrev pub Lacks : List ℕ → ℕ → ℕ → Type 0
 Lacks ws q r = (s : ℕ) → q ≤ s → s < r → has ws s ≡ false
 
-pub record Found (ws : List ℕ) (q n r s : ℕ) : Type 0 where
+pub record Found (ws : List ℕ) (q n r : ℕ) : Type 0 where
   pub from : q ≤ r
   pub none : Lacks ws q r
   pub few : r < n
   pub here : has ws r ≡ true
-  pub behind : s ≡ r + 1
 
-abbrev pub Next : List ℕ → ℕ → ℕ → Option ℕ → ℕ → Type 0
-Next ws q n o s = MatchOption o (Lacks ws q n) (λ r. Found ws q n r s)
+abbrev pub Next : List ℕ → ℕ → ℕ → Option ℕ → Type 0
+Next ws q n o = MatchOption o (Lacks ws q n) (Found ws q n)
 
 abbrev pub moved : List ℕ → Option ℕ → ℕ → List ℕ → ℕ → ℕ → List ℕ
 moved t d a ws m zero = replicate m 0

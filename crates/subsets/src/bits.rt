@@ -1,5 +1,5 @@
 // Sets of rows as bits in words; the dead row is never put in.
-ghost use Rattle.std.specs.Prelude.{◌≡◌, ℕ, ◌-◌, ◌*◌, ◌/◌, ◌<◌, ◌≤◌, Option, length, replicate};
+ghost use Rattle.std.specs.Prelude.{◌≡◌, ℕ, ◌+◌, ◌-◌, ◌*◌, ◌/◌, ◌%◌, ◌<◌, ◌≤◌, Option, IfSome, length, replicate};
 ghost use Rattle.std.specs.Iterator.{at_most};
 ghost use Rattle.subsets.specs.Sets as sets;
 
@@ -38,9 +38,22 @@ pub fn add_live(words: &mut [u32], q: usize, dead: Option<usize>)
     }
 }
 
+// The least member from q up that is in one word with q.
+fn in_word(words: &[u32], q: usize) -> Option<usize>
+    requires { q / 32 < length words.now }
+    ensures { sets.Next words.now q (q + (32 - q % 32)) result }
+{
+    let rest = words[q / 32] >> (q % 32);
+    if rest == 0 {
+        None
+    } else {
+        Some(q + rest.trailing_zeros() as usize)
+    }
+}
+
 // The members of a set from `at` up and below `rows`.
 #[derive(Drop)]
-pub struct Members<'a> {
+struct Members<'a> {
     words: &'a [u32],
     at: usize,
     rows: usize,
@@ -50,7 +63,7 @@ pub struct Members<'a> {
 
 impl<'a> Members<'a> {
     // The members of a set below `rows`.
-    pub fn new(words: &'a [u32], rows: usize) -> Members<'a>
+    fn new(words: &'a [u32], rows: usize) -> Members<'a>
         requires { rows ≤ 32 * length words.now }
         ensures { (result.words.now ≡ words.now) × (result.at ≡ 0) × (result.rows ≡ rows) }
     {
@@ -61,26 +74,24 @@ impl<'a> Members<'a> {
 impl<'a> Iterator for Members<'a> {
     type Item = usize;
 
-    ghost next_gives = { λ s r t. sets.Next s.words.now s.at s.rows r t.at × (t.words.now ≡ s.words.now) × (t.rows ≡ s.rows) };
+    ghost next_gives = { λ s r t. sets.Next s.words.now s.at s.rows r × IfSome r (λ q. t.at ≡ q + 1) × (t.words.now ≡ s.words.now) × (t.rows ≡ s.rows) };
 
     ghost remaining = { λ s. at_most (s.rows - s.at) };
 
     // Where the rest of a word is 0 it is passed over at once.
     fn next(&mut self) -> Option<usize> {
         while self.at < self.rows {
-            let q = self.at;
-            let rest = self.words[q / 32] >> (q % 32);
-            if rest == 0 {
-                if self.rows - q <= 32 - q % 32 {
+            if let Some(q) = in_word(self.words, self.at) {
+                if q >= self.rows {
                     return None;
                 }
-                self.at += 32 - q % 32;
-            } else {
-                self.at += 1;
-                if rest % 2 == 1 {
-                    return Some(q);
-                }
+                self.at = q + 1;
+                return Some(q);
             }
+            if self.rows - self.at <= 32 - self.at % 32 {
+                return None;
+            }
+            self.at += 32 - self.at % 32;
         }
         None
     }

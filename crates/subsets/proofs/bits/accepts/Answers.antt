@@ -13,7 +13,7 @@ pub loop-q-preserved : goal.loop-q-preserved
 loop-q-preserved c =
     let v = c.loop-q.invariant in
     let s = c.in-Some.ensures.steps in
-    (tt, tt, s.1 ∙ v.2, s.2 ∙ v.3, accepts_more c.args.table.words.now c.args.words.now _ _ _ _ _ v.2 v.4 (λ e. c.if-shown-eq1.false (c.shown.ensures ∙ e)) s.0)
+    (tt, tt, s.2 ∙ v.2, s.3 ∙ v.3, accepts_more c.args.table.words.now c.args.words.now _ _ _ _ _ v.2 v.4 (λ e. c.if-shown-eq1.false (c.shown.ensures ∙ e)) s.0 s.1)
 
 pub returns : goal.returns
 returns c =

@@ -9,9 +9,9 @@ loop-q-preserved c =
     let s = c.in-Some.ensures.steps in (
       tt,
       tt,
-      s.1 ∙ v.2,
-      s.2 ∙ v.3,
-      moved_more _ c.args.dead c.args.at _ _ _ _ _ _ _ _ _ v.2 v.4 (c.add_live.ensures ∙ ap (λ z. add_live c.loop-q.to z c.args.dead) c.cell.ensures.is) s.0,
+      s.2 ∙ v.2,
+      s.3 ∙ v.3,
+      moved_more _ c.args.dead c.args.at _ _ _ _ _ _ _ _ _ v.2 v.4 (c.add_live.ensures ∙ ap (λ z. add_live c.loop-q.to z c.args.dead) c.cell.ensures.is) s.0 s.1,
     )
 
 pub returns : goal.returns
