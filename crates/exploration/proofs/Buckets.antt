@@ -1,7 +1,7 @@
 -- Keys in buckets, from none to one more, and how a chain is followed. Assumes nothing.
-use Rattle.std.proofs.Common.{◌≡◌, ℕ, ◌+◌, ◌-◌, ◌<◌, ◌≤◌, List, length, get_or, set, replicate, sym, ap, ◌∙◌, subst, ⊎_elim, arith, below_more}
+use Rattle.std.proofs.Common.{◌≡◌, ℕ, ◌+◌, ◌-◌, ◌<◌, ◌≤◌, List, length, get_or, set, sym, ap, ◌∙◌, subst, ⊎_elim, arith, below_more}
 use Rattle.std.proofs.lemmas.Bool.{cases_eq, cases_lt, cases_order}
-use Rattle.std.proofs.lemmas.List.{get_or-set_same, get_or-set_other, get_or-replicate}
+use Rattle.std.proofs.lemmas.List.{get_or-set_same, get_or-set_other}
 use Rattle.exploration.specs.Hashed.{bucket, Last, Indexed}
 use Rattle.exploration.specs.Standing.{Same}
 use Rattle.exploration.specs.declared.index.Index.{Index}
@@ -51,13 +51,6 @@ module _ (m : ℕ) (key : ℕ → List ℕ) (k : ℕ) (heads links : List ℕ) (
         here = λ a. ap (bucket m) (same (c - 1) (omega (arith, q.within))) ∙ q.here a;
         past = λ i a o e. q.past i a o (ap (bucket m) (sym (same i (omega arith))) ∙ e);
       }
-
--- no key
-pub indexed_none : (m : ℕ) (key : ℕ → List ℕ) (heads links : List ℕ) → heads ≡ replicate m 0 → Indexed m key 0 heads links
-indexed_none m key heads links e = record {
-  heads_last = λ h l. subst (Last m key h 0) (sym (ap (λ z. get_or z h 0) e ∙ get_or-replicate m h 0 0 l)) (record { within = omega arith; here = λ a. absurd (omega arith); past = λ i a c _. absurd (omega arith) });
-  links_last = λ i l. absurd (omega arith);
-}
 
 -- one index from step to step
 pub same_on : {x y z : Index} → Same x y → Same y z → Same x z

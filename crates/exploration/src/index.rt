@@ -82,7 +82,8 @@ impl<'k, 'h, 'l> Index<'k, 'h, 'l> {
         keys::at(self.keys, self.size, i)
     }
 
-    // The class of `key`.
+    // The class of `key`. Inlined, as this and `settle` are, so that a system's width is known where keys are compared.
+    #[inline]
     pub fn find(&self, key: &[u32]) -> Option<Class>
         requires stands { Stands self.now }
         requires long { length key.now ≡ self.now.size }
@@ -99,6 +100,7 @@ impl<'k, 'h, 'l> Index<'k, 'h, 'l> {
     }
 
     // The class of `key`, which is put behind the other keys if it is new; nothing if there is no room for it.
+    #[inline]
     pub fn settle(&mut self, key: &[u32]) -> Option<Class>
         requires stands { Stands self.old }
         requires long { length key.now ≡ self.old.size }

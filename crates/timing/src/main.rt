@@ -7,6 +7,7 @@
 mod window;
 
 use exploration::explore::explore;
+use exploration::index::BUCKETS;
 use machines::inside::is_inside;
 use refinement::refine::refine;
 use std::alloc::{AllocError, Global};
@@ -32,7 +33,7 @@ fn measure(rt: &HostRuntime, size: u32, timed: bool) -> io::Result<()> {
     let mut rows = 0;
     let begun = Instant::now(rt)?;
     for _turn in 0..turns {
-        rows = explored(heap, size, table.as_mut_slice())?;
+        rows = explored(heap, size, table.as_mut_slice())?.unwrap_or(0);
     }
     let exploring = begun.elapsed(rt)?.as_micros();
     let mut blocks = 0;
@@ -50,29 +51,14 @@ fn measure(rt: &HostRuntime, size: u32, timed: bool) -> io::Result<()> {
     }
 }
 
-// How many rows the window's table has, which is written; 0 if it has no room.
-fn explored(heap: Global, size: u32, table: &mut [u32]) -> Result<usize, AllocError> {
+// How many rows the window's table has, which is written, if there is room for it.
+fn explored(heap: Global, size: u32, table: &mut [u32]) -> Result<Option<usize>, AllocError> {
     let most = size as usize;
-    let mut keys = vec![in heap; 0u32; most]?;
-    let mut links = vec![in heap; 0u32; most]?;
-    let mut heads = vec![in heap; 0u32; 4096]?;
-    let mut scratch = [0u32; 1];
+    let mut work = vec![in heap; 0u32; 2 * most + (1 + BUCKETS)]?;
     if size == 0 || size > 65536 || table.len() < 257 * most {
-        return Ok(0);
+        return Ok(None);
     }
-    let window = Window { size };
-    match explore(
-        &window,
-        most,
-        keys.as_mut_slice(),
-        &mut scratch,
-        table,
-        heads.as_mut_slice(),
-        links.as_mut_slice(),
-    ) {
-        Some(rows) => Ok(rows),
-        None => Ok(0),
-    }
+    Ok(explore(&Window { size }, most, table, work.as_mut_slice()))
 }
 
 // Into how many blocks the rows fall; 0 for what is no table.

@@ -7,6 +7,8 @@ use exploration::system::System;
 #[derive(Drop)]
 pub struct Window {
     pub size: u32,
+    ghost some: { 0 < size },
+    ghost small: { size < 2 ^ 30 },
 }
 
 // A byte of 128 and more is the second letter.
@@ -25,7 +27,7 @@ impl System for Window {
 
     ghost shows = { λ s k. upper s.size (slice_index k 0) };
 
-    ghost ready = { λ s. (0 < s.size) × (s.size < 2 ^ 30) };
+    ghost ready = { λ _. Unit {0} };
 
     ghost good = { λ s k. (length k ≡ 1) × (slice_index k 0 < s.size) };
 

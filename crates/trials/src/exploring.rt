@@ -53,20 +53,9 @@ impl System for Thirds {
 #[test]
 fn three_rows_by_two_columns(rt: HostRuntime) {
     let system = Thirds { least: 10 };
-    let mut keys = [0u32; 3];
-    let mut scratch = [0u32; 1];
     let mut table = [9u32; 771];
-    let mut heads = [7u32; 4096];
-    let mut links = [0u32; 3];
-    let rows = explore(
-        &system,
-        3,
-        &mut keys,
-        &mut scratch,
-        &mut table,
-        &mut heads,
-        &mut links,
-    );
+    let mut work = [7u32; 4103];
+    let rows = explore(&system, 3, &mut table, &mut work);
     assert_eq!(rt; rows, Some(3));
     assert_eq!(rt; table[0], 10, "row 0 shows");
     assert_eq!(rt; table[1], 0, "row 0, a small byte");
@@ -84,20 +73,9 @@ fn three_rows_by_two_columns(rt: HostRuntime) {
 #[test]
 fn two_rows_are_too_few(rt: HostRuntime) {
     let system = Thirds { least: 10 };
-    let mut keys = [0u32; 2];
-    let mut scratch = [0u32; 1];
     let mut table = [9u32; 515];
-    let mut heads = [7u32; 4096];
-    let mut links = [0u32; 2];
-    let rows = explore(
-        &system,
-        2,
-        &mut keys,
-        &mut scratch,
-        &mut table,
-        &mut heads,
-        &mut links,
-    );
+    let mut work = [7u32; 4101];
+    let rows = explore(&system, 2, &mut table, &mut work);
     assert_eq!(rt; rows, None);
     assert_eq!(rt; table[514], 9, "what lies behind stays");
 }

@@ -1,12 +1,9 @@
-use Rattle.std.proofs.Common.{◌≡◌, ℕ, sym, ◌∙◌, arith}
+use Rattle.std.proofs.Common.{◌≡◌, ℕ, ◌∙◌, arith}
 use Rattle.std.proofs.lemmas.Slice.Eq.{slice_eq-Decides}
 use Rattle.exploration.specs.Keys.{key_at}
 use Rattle.exploration.proofs.Buckets.{chain_on}
 use Rattle.exploration.proofs.index.Index.find.Goals as goal
 use Rattle.std.proofs.lemmas.Bool.Decides.{Decides-eqb}
-
-pub returns-then-eq : goal.returns-then-eq
-returns-then-eq c = (omega arith, sym c.key.ensures.0 ∙ (slice_eq-Decides Decides-eqb _ _ _ c.eq.ensures).0 c.if-eq.true)
 
 pub loop-next-preserved : goal.loop-next-preserved
 loop-next-preserved c =

@@ -2,15 +2,8 @@ use Rattle.std.proofs.Common.{ℕ, ◌%◌, sym, refl, ap, ◌∙◌, arith, len
 use Rattle.std.proofs.lemmas.Nat.{mod_below}
 use Rattle.exploration.specs.Keys.{key_at}
 use Rattle.exploration.specs.Hashed.{bucket}
-use Rattle.exploration.proofs.Products.{next_row, row_within}
 use Rattle.exploration.proofs.Buckets.{indexed_more}
 use Rattle.exploration.proofs.index.Index.settle.Goals as goal
-
-pub put-requires : goal.put-requires
-put-requires c =
-    let s = c.args.self.now in
-    let S = c.requires.stands in
-    (omega (arith, next_row s.count s.size, row_within s.count s.most s.size (omega arith), S.keys, S.few), c.requires.long)
 
 pub returns : goal.returns
 returns c =

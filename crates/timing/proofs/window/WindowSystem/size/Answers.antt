@@ -9,7 +9,7 @@ returns c =
     record {
       is = refl;
       lawful = record {
-        starts = (refl, c.requires.0);
+        starts = (refl, c.args.self.now.some);
         stays = λ k b g h. (refl, wrap_below m (get_or k 0 0) (b / 128) g.1 (omega arith));
         wide = λ k g. g.0;
         alike = λ k b g h. ap (λ z. wrap m (2 * get_or k 0 0 + z) ∷ []) (omega arith);
