@@ -1,10 +1,10 @@
 -- Rounds of a refinement: each tells more rows apart by words, and one that changes nothing is the last. Assumes nothing.
-use Rattle.std.proofs.Common.{◌≡◌, ℕ, suc, ◌+◌, ◌*◌, ◌<◌, ◌≤◌, ◌≢◌, ◌⊎◌, Bool, true, false, MatchBool, Some, None, Option, MatchOption, List, [], ◌∷◌, length, get_or, set, sum, sym, refl, ap, ◌∙◌, subst, inl, inr, ⊎_elim, arith, get_or-set_other, get_or-set_same}
-use Rattle.std.specs.List.{AllByRecursion as All, AllWithin, HoldsAt, zip}
+use Rattle.std.proofs.Common.{◌≡◌, ℕ, suc, ◌+◌, ◌*◌, ◌<◌, ◌≤◌, ◌≢◌, ◌⊎◌, Bool, true, false, MatchBool, Some, None, Option, MatchOption, List, [], ◌∷◌, length, get_or, set, sum, sym, refl, ap, ◌∙◌, subst, inl, inr, ⊎_elim, arith, get_or-set_other, get_or-set_same, below_more}
+use Rattle.std.specs.List.{AllWithin, HoldsAt, zip}
 use Rattle.std.specs.Option.{unwrap_or}
 use Rattle.std.proofs.lemmas.Slice.Zip.{length-zip, get_or-zip}
-use Rattle.std.proofs.lemmas.List.Sums.{sum_by-cons}
-use Rattle.std.proofs.ByRecursion.{sum_by_le}
+use Rattle.std.proofs.lemmas.List.Sums.{sum_by-cons, sum_by-le}
+use Rattle.std.proofs.lemmas.List.{get_or_default}
 use Rattle.std.proofs.lemmas.Bool.{cases_eq, cases_lt, cases_order}
 use Rattle.machines.specs.Words.{Word, Bytes}
 use Rattle.machines.specs.Machines.{run}
@@ -14,33 +14,34 @@ use Rattle.machines.specs.Inside.{Inside}
 use Rattle.refinement.proofs.RowCells.{row_cells, length-row_cells, at_cell}
 use Rattle.refinement.specs.Refining.{at, Same, Other, Found, Blocks, Refined}
 
--- the search for an alike row begins at the block's least row, and if it finds none below the row, the row is alike to itself
-pub found_alike : {c k f : ℕ} {t : List ℕ} {B : ℕ → ℕ} {i : ℕ} (d : Option ℕ) → ((r : ℕ) → r < k → B r ≤ r) → i < k → f ≡ B i
+-- the rows below j are other ones than i if those from the least row of i's block on are
+others_below : (c k f : ℕ) (t : List ℕ) (B : ℕ → ℕ) (i j : ℕ) → ((r : ℕ) → r < k → B r ≤ r) → i < k → f ≡ B i → j ≤ i
+    → ((r : ℕ) → f ≤ r → r < j → Other c t B r i) → (r : ℕ) → r < j → Other c t B r i
+others_below c k f t B i j low l e m others r h = ⊎_elim (λ (u : r < f). inl (λ z. omega (arith, low r (omega arith)))) (λ (u : f ≤ r). others r u h) (cases_lt r f)
+
+-- what the search for a row alike to i found: if none below it, then i, which is alike to itself
+pub found_alike : {c k f : ℕ} {t : List ℕ} {i : ℕ} (B : ℕ → ℕ) (d : Option ℕ) → ((r : ℕ) → r < k → B r ≤ r) → i < k → f ≡ B i
     → MatchOption d ((r : ℕ) → f ≤ r → r < i → Other c t B r i) (λ j. (f ≤ j) × (j < i) × Same c t B j i × ((r : ℕ) → f ≤ r → r < j → Other c t B r i))
     → Found c t B i (unwrap_or d i)
-found_alike {c} {k} {f} {t} {B} {i} d low l e search = go d search
-  where
-    -- a row below i's block is in another one
-    least : (j : ℕ) → j ≤ i → ((r : ℕ) → f ≤ r → r < j → Other c t B r i) → (r : ℕ) → r < j → Other c t B r i
-    least j m others r h = ⊎_elim (λ (u : r < f). inl (λ z. omega (arith, low r (omega arith)))) (λ (u : f ≤ r). others r u h) (cases_lt r f)
+found_alike {c} {k} {f} {t} {i} B None low l e others = record {
+  low = omega arith;
+  same = record { old = refl; shows = refl; on = λ a h. refl };
+  least = others_below c k f t B i i low l e (omega arith) others;
+}
+found_alike {c} {k} {f} {t} {i} B (Some j) low l e (above, below, same, others) = record {
+  low = omega arith;
+  same = same;
+  least = others_below c k f t B i j low l e (omega arith) others;
+}
 
-    go : (d : Option ℕ) → MatchOption d ((r : ℕ) → f ≤ r → r < i → Other c t B r i) (λ j. (f ≤ j) × (j < i) × Same c t B j i × ((r : ℕ) → f ≤ r → r < j → Other c t B r i))
-        → Found c t B i (unwrap_or d i)
-    go None others = record {
-      low = omega arith;
-      same = record { old = refl; shows = refl; on = λ a h. refl };
-      least = least i (omega arith) others;
-    }
-    go (Some j) (above, below, same, others) = record { low = omega arith; same = same; least = least j (omega arith) others }
-
--- what was found in two rows of one block that show the same: their cells lead to the same blocks, or two don't
+-- the cells of two rows, column by column
 abbrev pub pairs : ℕ → List ℕ → ℕ → ℕ → List (ℕ × ℕ)
 pairs c t i j = zip (row_cells c t i) (row_cells c t j)
 
 length-pairs : {c k : ℕ} {t : List ℕ} {i j : ℕ} → Inside c k t → i < k → j < k → length (pairs c t i j) ≡ c
 length-pairs {c} {k} {t} {i} {j} S l m = omega (arith, length-zip (row_cells c t i) (row_cells c t j), length-row_cells S l, length-row_cells S m)
 
-pub at_pair : {c k : ℕ} {t : List ℕ} {i j : ℕ} → Inside c k t → i < k → j < k → (a : ℕ) → a < c → (d : ℕ × ℕ) → get_or (pairs c t i j) a d ≡ (cell t i a, cell t j a)
+at_pair : {c k : ℕ} {t : List ℕ} {i j : ℕ} → Inside c k t → i < k → j < k → (a : ℕ) → a < c → (d : ℕ × ℕ) → get_or (pairs c t i j) a d ≡ (cell t i a, cell t j a)
 at_pair {c} {k} {t} {i} {j} S l m a h d =
     get_or-zip (row_cells c t i) (row_cells c t j) a d (omega (arith, length-row_cells S l)) (omega (arith, length-row_cells S m))
     ∙ ap (λ z. (z, get_or (row_cells c t j) a d.1)) (at_cell S l a d.0 h) ∙ ap (λ z. (cell t i a, z)) (at_cell S m a d.1 h)
@@ -51,6 +52,7 @@ pair_inside {c} {k} {t} {i} {j} S l m a x y h e =
     let p : (x, y) ≡ (cell t i a, cell t j a) = e ∙ at_pair S l m a n (x, y) in
     (omega (arith, S.cells i l a n, ap (λ (z : ℕ × ℕ). z.0) p), omega (arith, S.cells j m a n, ap (λ (z : ℕ × ℕ). z.1) p))
 
+-- what was found in two rows of one block that show the same: their cells lead to the same blocks, or two don't
 pub alike_says : {c k : ℕ} {t : List ℕ} {i j : ℕ} (B : ℕ → ℕ) (b : Bool) → Inside c k t → i < k → j < k → B i ≡ B j → shown t i ≡ shown t j
     → MatchBool b (AllWithin (λ p. B p.0 ≡ B p.1) (pairs c t i j) 0 (length (pairs c t i j))) ((a : ℕ) × (a < length (pairs c t i j)) × HoldsAt (λ p. B p.0 ≢ B p.1) (pairs c t i j) a)
     → MatchBool b (Same c t B i j) (Other c t B i j)
@@ -68,10 +70,9 @@ abbrev pub Finer : ℕ → ℕ → List ℕ → (ℕ → ℕ) → (ℕ → ℕ) 
 Finer c k t B D = (i : ℕ) → i < k → Found c t B i (D i)
 
 pub finer_more : (c k : ℕ) (t : List ℕ) (B : ℕ → ℕ) (s : List ℕ) (j : ℕ) → k < length s → Finer c k t B (at s) → Found c t B k j → Finer c (k + 1) t B (at (set s k j))
-finer_more c k t B s j l F found i h = ⊎_elim
-    (λ (e : i ≡ k). subst (λ z. Found c t B z (at (set s k j) z)) (sym e) (subst (Found c t B k) (sym (get_or-set_same s k j 0 l)) found))
-    (λ (n : i ≡ k → ⊥). subst (Found c t B i) (sym (get_or-set_other s k i j 0 n)) (F i (omega arith)))
-    (cases_eq i k)
+finer_more c k t B s j l F found = below_more (λ i. Found c t B i (at (set s k j) i)) k
+    (λ i m. let ne : i ≢ k = omega arith in subst (Found c t B i) (sym (get_or-set_other s k i j 0 ne)) (F i m))
+    (subst (Found c t B k) (sym (get_or-set_same s k j 0 l)) found)
 
 module _ (c k : ℕ) (t : List ℕ) (S : Inside c k t) (B D : ℕ → ℕ) (P : Blocks c k t B) (Q : Finer c k t B D) where
   other_told : (column least : ℕ → ℕ) → Columns c column least → (i j : ℕ) → i < k → j < k → Other c t B i j → Told (leads column t) (shown t) i j
@@ -133,11 +134,7 @@ module _ (c k : ℕ) (t : List ℕ) (S : Inside c k t) (B : ℕ → ℕ) (P : Bl
 
 -- the sum of the blocks' least rows is bounded, and each round but the last makes it larger
 pub sum_small : (k : ℕ) (s : List ℕ) → length s ≡ k → ((i : ℕ) → i < k → get_or s i 0 ≤ i) → sum s ≤ k * k
-sum_small k s e low = rw (ap (λ z. z * k) e) at (sum_by_le (λ x. x) k s (all s (λ i l. omega (arith, low i (omega arith)))))
-  where
-    all : (s : List ℕ) → ((i : ℕ) → i < length s → get_or s i 0 ≤ k) → All (λ x. x ≤ k) s
-    all [] h = tt
-    all (x ∷ s) h = (h 0 (omega arith), all s (λ i l. h (suc i) (omega arith)))
+sum_small k s e low = subst (λ n. sum s ≤ n * k) e (sum_by-le (λ x. x) k s (λ i d l. omega (arith, low i (omega arith), get_or_default s i d 0 l)))
 
 pub sum_grows : (s u : List ℕ) → length s ≡ length u → ((i : ℕ) → i < length s → get_or s i 0 ≤ get_or u i 0) → (s ≡ u) ⊎ (sum s < sum u)
 sum_grows [] [] e h = inl refl

@@ -34,6 +34,7 @@ fn put_row(raw: RawTable<'_>, i: usize, names: &[u32], table: &mut [u32])
 {
     let to = 257 * names[i] as usize;
     table[to] = raw.shown(i);
+    // By number, and not over `raw.cells(i)`: a column stands at one place in both tables.
     for a in 0..raw.columns() {
         table[to + (1 + a)] = names[raw.cell(i, a)];
     }

@@ -8,7 +8,7 @@ mod window;
 
 use exploration::explore::explore;
 use exploration::index::BUCKETS;
-use machines::inside::is_inside;
+use machines::raw::RawTable;
 use refinement::refine::refine;
 use std::alloc::{AllocError, Global};
 use std::time::Instant;
@@ -63,23 +63,18 @@ fn explored(heap: Global, size: u32, table: &mut [u32]) -> Result<Option<usize>,
 
 // Into how many blocks the rows fall; 0 for what is no table.
 fn refined(heap: Global, rows: usize, table: &[u32]) -> Result<usize, AllocError> {
-    if !is_inside(table, COLUMNS, rows) || rows > 65536 {
+    let Some(table) = RawTable::checked(table, COLUMNS, rows) else {
+        return Ok(0);
+    };
+    if rows > 65536 {
         return Ok(0);
     }
     let mut block = vec![in heap; 0u32; rows]?;
     let mut fresh = vec![in heap; 0u32; rows]?;
-    refine(
-        table,
-        COLUMNS,
-        rows,
-        block.as_mut_slice(),
-        fresh.as_mut_slice(),
-    );
-    let mut blocks = 0usize;
-    for (i, least) in block.iter().enumerate() {
-        if *least as usize == i {
-            blocks = blocks.saturating_add(1);
-        }
-    }
-    Ok(blocks)
+    refine(table, block.as_mut_slice(), fresh.as_mut_slice());
+    let firsts = block
+        .iter()
+        .enumerate()
+        .filter(|(i, least)| **least as usize == *i);
+    Ok(firsts.count())
 }

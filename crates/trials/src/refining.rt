@@ -1,10 +1,10 @@
 // Rows that do alike, and the least table, on machines worked out by hand.
-use machines::inside::is_inside;
+use machines::raw::RawTable;
 use refinement::dead_row::dead_row;
 use refinement::quotient::quotient;
 use refinement::refine::refine;
 
-// How many rows the least table has, which is written to `table`; 0 for what is no table. `block` has each row's block.
+// How many rows the least table has, which is written to `table`, if `raw` is one. `block` has each row's block.
 fn least_table(
     raw: &[u32],
     columns: usize,
@@ -12,32 +12,24 @@ fn least_table(
     block: &mut [u32],
     names: &mut [u32],
     table: &mut [u32],
-) -> usize {
-    if !is_inside(raw, columns, rows) {
-        return 0;
-    }
+) -> Option<usize> {
+    let raw = RawTable::checked(raw, columns, rows)?;
     if rows > 100 {
-        return 0;
+        return None;
     }
-    if block.len() != rows {
-        return 0;
-    }
-    if names.len() != rows {
-        return 0;
+    if block.len() != rows || names.len() != rows {
+        return None;
     }
     if table.len() < 257 * rows {
-        return 0;
+        return None;
     }
-    refine(raw, columns, rows, block, names);
-    quotient(raw, columns, rows, block, names, table)
+    refine(raw, block, names);
+    Some(quotient(raw, block, names, table))
 }
 
-// The dead row, and `rows` for none or for what is no table.
-fn dead(table: &[u32], columns: usize, rows: usize) -> usize {
-    if !is_inside(table, columns, rows) {
-        return rows;
-    }
-    dead_row(table, columns, rows)
+// The dead row of a table, if it has one.
+fn dead(table: &[u32], columns: usize, rows: usize) -> Option<usize> {
+    dead_row(RawTable::checked(table, columns, rows)?)
 }
 
 #[test]
@@ -48,13 +40,13 @@ fn one_row(rt: HostRuntime) {
     let mut table = [9u32; 257];
     assert_eq!(rt;
         least_table(&raw, 1, 1, &mut block, &mut names, &mut table),
-        1
+        Some(1)
     );
     assert_eq!(rt; block[0], 0);
     assert_eq!(rt; table[0], 0, "it shows 0");
     assert_eq!(rt; table[1], 0, "and leads to itself");
     assert_eq!(rt; table[2], 9, "no second column is written");
-    assert_eq!(rt; dead(&table, 1, 1), 0, "so it is dead");
+    assert_eq!(rt; dead(&table, 1, 1), Some(0), "so it is dead");
 }
 
 // Three rows that show 1: each leads to the next and the last to itself, so from all of them 1 is shown for ever.
@@ -72,12 +64,12 @@ fn all_rows_alike(rt: HostRuntime) {
     let mut table = [9u32; 771];
     assert_eq!(rt;
         least_table(&raw, 1, 3, &mut block, &mut names, &mut table),
-        1
+        Some(1)
     );
     assert_eq!(rt; block[2], 0, "one block");
     assert_eq!(rt; table[0], 1);
     assert_eq!(rt; table[1], 0);
-    assert_eq!(rt; dead(&table, 1, 1), 1, "none is dead");
+    assert_eq!(rt; dead(&table, 1, 1), None, "none is dead");
 }
 
 // A chain: rows 0 to 3 show 0 and lead on, row 4 shows 1 and leads to itself. Row i is told from the others by how many
@@ -96,13 +88,17 @@ fn a_chain_needs_a_round_for_each_row(rt: HostRuntime) {
     let mut table = [9u32; 1285];
     assert_eq!(rt;
         least_table(&raw, 1, 5, &mut block, &mut names, &mut table),
-        5
+        Some(5)
     );
     assert_eq!(rt; block[1], 1);
     assert_eq!(rt; block[4], 4);
     assert_eq!(rt; table[772], 4, "row 3 leads to row 4");
     assert_eq!(rt; table[1028], 1, "which shows 1");
-    assert_eq!(rt; dead(&table, 1, 5), 5, "from each row 1 is still reached");
+    assert_eq!(rt;
+        dead(&table, 1, 5),
+        None,
+        "from each row 1 is still reached"
+    );
 }
 
 // Two columns. Rows 1 and 3 show 1, rows 2 and 4 show 0 and lead to themselves; row 0 leads to 1 and 2 and row 1 to 3 and
@@ -127,7 +123,7 @@ fn two_components(rt: HostRuntime) {
     let mut table = [9u32; 1285];
     assert_eq!(rt;
         least_table(&raw, 2, 5, &mut block, &mut names, &mut table),
-        3
+        Some(3)
     );
     assert_eq!(rt; block[3], 1);
     assert_eq!(rt; block[4], 2);
@@ -135,6 +131,6 @@ fn two_components(rt: HostRuntime) {
     assert_eq!(rt; table[2], 2);
     assert_eq!(rt; table[258], 1, "row 1 leads to itself");
     assert_eq!(rt; table[259], 2, "and to the dead row");
-    assert_eq!(rt; dead(&table, 2, 3), 2);
-    assert_eq!(rt; dead(&raw, 2, 5), 2, "the first of the two");
+    assert_eq!(rt; dead(&table, 2, 3), Some(2));
+    assert_eq!(rt; dead(&raw, 2, 5), Some(2), "the first of the two");
 }

@@ -10,5 +10,5 @@ returns c =
     let n = c.args.table.columns in
     let t = c.args.table.words.now in
     let B = at c.args.block.now in
-    subst (Found n t B c.args.i) (sym c.unwrap_or.ensures) (found_alike _ c.requires.low c.requires.i refl
+    subst (Found n t B c.args.i) (sym c.unwrap_or.ensures) (found_alike B _ c.requires.low c.requires.i refl
     (first_from_Range _ _ _ _ (λ j. Same n t B j c.args.i) (λ j. Other n t B j c.args.i) c.find.ensures.ran (λ x q k. search (rules, tests)) (λ x q k. search (rules, tests))))
