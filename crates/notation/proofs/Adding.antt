@@ -5,7 +5,10 @@ use Rattle.std.proofs.lemmas.Bool.{and_from}
 use Rattle.std.specs.List.{insert, between}
 use Rattle.patterns.specs.Patterns.{Pattern, empty, range, seq, union, inter, compl, star}
 use Rattle.patterns.specs.Lists.{write, sound}
-use Rattle.notation.specs.Writing.{Put, Added, Keeps}
+use Rattle.notation.specs.declared.scan.Reader.{Reader}
+use Rattle.notation.specs.Reading.{Past}
+use Rattle.notation.specs.Writing.{Put, Added, Keeps, Parsed}
+use Rattle.notation.proofs.Moving.{past_past}
 
 -- bytes, and then more
 pub put_both : {xs u ys v zs : List ℕ} → Put xs u ys → Put ys v zs → Put xs (u ++ v) zs
@@ -97,6 +100,14 @@ keeps_again {xs = xs} {us = us} {vs = vs} start end l e f g s base m h =
       is = g ∙ ap (λ u. insert u start 3) many ∙ inserted_at base (w ++ (7 ∷ w)) start 3 m;
       short = s;
     })
+
+-- a pattern read from further on, and one written while the reader went on
+pub parsed_on : {s t u : Reader} {xs ys : List ℕ} → Past s t → Parsed t u xs ys → Parsed s u xs ys
+parsed_on h g = record { past = past_past h g.past; added = g.added }
+
+-- two patterns and the byte of their operator between
+pub parsed_infix : {k : ℕ} (o : Operator k) {s t u : Reader} {xs us ys zs : List ℕ} {start n : ℕ} → start ≡ n → n ≡ length xs → Parsed s t xs us → ys ≡ insert us start k → Parsed t u ys zs → Parsed s u xs zs
+parsed_infix o {start = start} e f h i g = record { past = past_past h.past g.past; added = added_infix o start (sym (e ∙ f)) h.added i g.added }
 
 -- two promises of one call
 pub made_both : {X Y : Type 0} (r : Result X Y) {P Q R : Type 0} → IfOk r (λ _. P) → IfOk r (λ _. Q) → (P → Q → R) → IfOk r (λ _. R)

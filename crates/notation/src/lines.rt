@@ -37,6 +37,5 @@ fn is_used(text: &[u8], names: &[Span], name: Span) -> bool
     requires name { Within text.now name }
     ensures { result ≡ false → Each (Unlike text.now name) names.now }
 {
-    let word = name.of(text);
-    names.iter().any(|other| other.of(text) == word)
+    names.iter().any(|other| other.of(text) == name.of(text))
 }

@@ -1,7 +1,6 @@
-use Rattle.std.proofs.Common.{sym, ◌∙◌}
 use Rattle.std.proofs.lemmas.Result.{IfOk-weaker}
 use Rattle.notation.proofs.Moving.{past_past}
-use Rattle.notation.proofs.Adding.{begun, added_infix, added_not, unions, intersections, sequences}
+use Rattle.notation.proofs.Adding.{begun, parsed_infix, parsed_on, added_not, unions, intersections, sequences}
 use Rattle.notation.proofs.scan.Reader.+parsing.Goals as goal
 
 pub expression-put_before-requires : goal.expression-put_before-requires
@@ -9,39 +8,21 @@ expression-put_before-requires t c = begun _ _ _ c.len-start.ensures c.args.list
 
 pub expression-returns : goal.expression-returns
 expression-returns t c =
-    let first = c.in_ok-conjunction.ensures in
-    IfOk-weaker c.expression.result _ _
-    (λ _ h. record {
-      past = past_past first.past (past_past c.if-not-accept.ensures h.past);
-      added = added_infix unions c.len-start.result (sym (c.len-start.ensures ∙ c.args.list.now.ok.0)) first.added c.in_ok-put_before.ensures.items h.added;
-    })
-    c.expression.ensures
+    IfOk-weaker c.expression.result _ _ (λ _ h. parsed_infix unions c.len-start.ensures c.args.list.now.ok.0 c.in_ok-conjunction.ensures c.in_ok-put_before.ensures.items (parsed_on c.if-not-accept.ensures h)) c.expression.ensures
 
 pub conjunction-put_before-requires : goal.conjunction-put_before-requires
 conjunction-put_before-requires t c = begun _ _ _ c.len-start.ensures c.args.list.now.ok.0 c.sequence.new.list.ok.0 c.in_ok-sequence.ensures.added
 
 pub conjunction-returns : goal.conjunction-returns
 conjunction-returns t c =
-    let first = c.in_ok-sequence.ensures in
-    IfOk-weaker c.conjunction.result _ _
-    (λ _ h. record {
-      past = past_past first.past (past_past c.if-not-accept.ensures h.past);
-      added = added_infix intersections c.len-start.result (sym (c.len-start.ensures ∙ c.args.list.now.ok.0)) first.added c.in_ok-put_before.ensures.items h.added;
-    })
-    c.conjunction.ensures
+    IfOk-weaker c.conjunction.result _ _ (λ _ h. parsed_infix intersections c.len-start.ensures c.args.list.now.ok.0 c.in_ok-sequence.ensures c.in_ok-put_before.ensures.items (parsed_on c.if-not-accept.ensures h)) c.conjunction.ensures
 
 pub sequence-put_before-requires : goal.sequence-put_before-requires
 sequence-put_before-requires t c = begun _ _ _ c.len-start.ensures c.args.list.now.ok.0 c.negation.new.list.ok.0 c.in_ok-negation.ensures.added
 
 pub sequence-returns : goal.sequence-returns
 sequence-returns t c =
-    let first = c.in_ok-negation.ensures in
-    IfOk-weaker c.sequence.result _ _
-    (λ _ h. record {
-      past = past_past first.past h.past;
-      added = added_infix sequences c.len-start.result (sym (c.len-start.ensures ∙ c.args.list.now.ok.0)) first.added c.in_ok-put_before.ensures.items h.added;
-    })
-    c.sequence.ensures
+    IfOk-weaker c.sequence.result _ _ (λ _ h. parsed_infix sequences c.len-start.ensures c.args.list.now.ok.0 c.in_ok-negation.ensures c.in_ok-put_before.ensures.items h) c.sequence.ensures
 
 pub negation-returns : goal.negation-returns
 negation-returns t c =
