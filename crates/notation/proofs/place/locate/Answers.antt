@@ -4,9 +4,6 @@ use Rattle.notation.proofs.Placing.{counted_none, counted_line, counted_byte, co
 use Rattle.notation.proofs.place.locate.Goals as goal
 use Rattle.notation.proofs.place.locate.Goals.{then-byte-eq10, else-byte-eq10}
 
-pub loop-byte-init : goal.loop-byte-init
-loop-byte-init c = counted_none _
-
 pub loop-byte-preserved : goal.loop-byte-preserved
 loop-byte-preserved c =
     elim c.if-byte-eq10.branch [

@@ -3,9 +3,6 @@ use Rattle.std.proofs.lemmas.Result.{IfOk-weaker}
 use Rattle.notation.proofs.Adding.{keeps_again, made_both}
 use Rattle.notation.proofs.scan.Reader.put_again.Goals as goal
 
-pub put_before-requires-2 : goal.put_before-requires-2
-put_before-requires-2 c = omega (arith, c.requires, c.len-end.ensures, c.in_ok-extend_from_within.ensures.len, c.in_ok-put_before.ensures.len)
-
 pub returns : goal.returns
 returns c =
     let put = c.put_before-2.ensures in
