@@ -101,6 +101,13 @@ keeps_again {xs = xs} {us = us} {vs = vs} start end l e f g s base m h =
       short = s;
     })
 
+-- a pattern whose bytes were written where the reader had come
+pub parsed_as : {s t : Reader} {xs ys : List ℕ} (p : Pattern) → sound p ≡ true → Past s t → Put xs (write p) ys → Parsed s t xs ys
+parsed_as p e h put = record { past = h; added = added p e put }
+
+pub parsed_byte : {s t : Reader} {xs ys : List ℕ} (b : ℕ) → b < 256 → Past s t → Put xs (2 ∷ b ∷ b ∷ []) ys → Parsed s t xs ys
+parsed_byte b l h put = record { past = h; added = added_range b b l (omega arith) put }
+
 -- a pattern read from further on, and one written while the reader went on
 pub parsed_on : {s t u : Reader} {xs ys : List ℕ} → Past s t → Parsed t u xs ys → Parsed s u xs ys
 parsed_on h g = record { past = past_past h g.past; added = g.added }

@@ -58,9 +58,7 @@ fn run(rt: &HostRuntime) -> Result<(), Failure> {
         let list = fs::read(rt, source).map_err(|error| Failure::of(rt.alloc(), source, &error))?;
         return print_places(rt, source, list.as_slice(), input);
     }
-    let Some(at) = divider(input) else {
-        return Err(Failure::NoList);
-    };
+    let at = divider(input).ok_or(Failure::NoList)?;
     let text = input.len().min(at + 4);
     print_places(rt, "standard input", &input[0..at], &input[text..])
 }

@@ -1,5 +1,4 @@
 use Rattle.std.proofs.lemmas.Result.{IfOk-weaker}
-use Rattle.notation.proofs.Moving.{past_past}
 use Rattle.notation.proofs.Adding.{begun, parsed_infix, parsed_on, added_not, unions, intersections, sequences}
 use Rattle.notation.proofs.scan.Reader.+parsing.Goals as goal
 
@@ -17,6 +16,4 @@ sequence-returns t c =
 
 pub negation-returns : goal.negation-returns
 negation-returns t c =
-    IfOk-weaker c.negation.result _ _
-    (λ _ h. record { past = past_past c.if-not-accept.ensures h.past; added = added_not c.in_ok-put.ensures h.added })
-    c.negation.ensures
+    IfOk-weaker c.negation.result _ _ (λ _ h. parsed_on c.if-not-accept.ensures (record { past = h.past; added = added_not c.in_ok-put.ensures h.added })) c.negation.ensures
