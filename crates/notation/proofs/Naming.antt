@@ -48,7 +48,3 @@ pub notated_line : {xs bytes bytes' : List ℕ} {names names' : List Span} {s t 
 notated_line {xs = xs} {names = names} {names' = names'} {n = n} e f h l =
     notated_more n h l.added (subst (λ (ns : List Span). length ns < 32) f l.room) (subst (λ (w : List ℕ). Within w n) e l.within)
     (subst (λ (ns : List Span). All (Unlike xs n) ns) f (subst (λ (w : List ℕ). All (Unlike w n) names') e l.new))
-
--- a test that says no
-pub decided_no : {P : Type 0} (r : Bool) → Decides r P → r ≡ false → P → ⊥
-decided_no r h e p = let t : r ≡ true = h.1 p in let z : ◌≡◌ {A = ℕ} 0 1 = cc in omega arith

@@ -44,8 +44,8 @@ counted_all {xs = xs} {i = i} {line = line} {column = column} h l =
     (sym (at_drop_all (line_from line) xs i l) ∙ h.lines, sym (at_drop_all (column_from column) xs i l) ∙ h.columns)
 
 -- a front that ends where the text does, or before
-pub take_within : (at n : ℕ) (xs : List ℕ) → n ≡ min at (length xs) → take (n - 0) xs ≡ take at xs
+pub take_within : (at n : ℕ) (xs : List ℕ) → n ≡ min at (length xs) → take n xs ≡ take at xs
 take_within at n xs e = ⊎_elim
     (λ (l : at < length xs). ap (λ k. take k xs) (omega arith))
-    (λ (l : length xs ≤ at). take_all (n - 0) xs (omega arith) ∙ sym (take_all at xs l))
+    (λ (l : length xs ≤ at). take_all n xs (omega arith) ∙ sym (take_all at xs l))
     (cases_lt at (length xs))
