@@ -25,10 +25,6 @@ added p s h = record { pattern = p; sounds = s; put = h }
 pub added_range : {xs ys : List ℕ} (a b : ℕ) → b < 256 → a ≤ b → Put xs (2 ∷ a ∷ b ∷ []) ys → Added xs ys
 added_range a b l m h = added (range a b) (and_from (ltb b 256) (leb a b) (lt-ltb b 256 l) (le-leb a b m)) h
 
--- what is written grows
-pub added_long : {xs ys : List ℕ} → Added xs ys → length xs ≤ length ys
-added_long {xs = xs} h = omega (arith, ap length h.put.is, length-append xs (write h.pattern))
-
 -- an operator of two patterns, by its byte
 pub record Operator (k : ℕ) : Type 0 where
   pub of : Pattern → Pattern → Pattern
@@ -120,7 +116,3 @@ parsed_infix o {start = start} e f h i g = record { past = past_past h.past g.pa
 pub made_both : {X Y : Type 0} (r : Result X Y) {P Q R : Type 0} → IfOk r (λ _. P) → IfOk r (λ _. Q) → (P → Q → R) → IfOk r (λ _. R)
 made_both (Ok x) p q f = f p q
 made_both (Err y) p q f = tt
-
--- the place where a pattern began lies within what is written
-pub begun : {xs ys : List ℕ} (start n m : ℕ) → start ≡ n → n ≡ length xs → m ≡ length ys → Added xs ys → start ≤ m
-begun start n m e f g h = omega (arith, added_long h)

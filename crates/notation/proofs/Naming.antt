@@ -1,10 +1,10 @@
 -- Names and patterns, line after line. Assumes nothing.
-use Rattle.std.proofs.Common.{◌≡◌, ℕ, ◌+◌, ◌<◌, Bool, true, false, List, [], ◌∷◌, ◌++◌, length, Decides, MatchBool, sym, refl, ap, ◌∙◌, subst, arith}
+use Rattle.std.proofs.Common.{◌≡◌, ℕ, ◌<◌, true, List, [], ◌∷◌, ◌++◌, length, sym, refl, ap, ◌∙◌, subst, arith}
 use Rattle.std.specs.List.{All}
 use Rattle.std.proofs.lemmas.List.{append-nil, length_push}
 use Rattle.std.proofs.lemmas.List.Elements.{All-push}
 use Rattle.std.proofs.lemmas.List.Quantifiers.{all_pairs_push}
-use Rattle.std.proofs.lemmas.Bool.{and_from, false≢true}
+use Rattle.std.proofs.lemmas.Bool.{and_from}
 use Rattle.patterns.specs.Lists.{write, write_list, sound}
 use Rattle.patterns.proofs.Trees.{write_append, sound_append}
 use Rattle.notation.specs.declared.scan.Span.{Span}
@@ -13,16 +13,6 @@ use Rattle.notation.specs.Writing.{Added}
 use Rattle.notation.specs.Names.{Unlike}
 use Rattle.notation.specs.declared.scan.Reader.{Reader}
 use Rattle.notation.specs.Promises.{Notated, Line}
-
--- no line yet, and one more
-pub notated_none : (xs : List ℕ) → Notated xs [] []
-notated_none xs = record {
-  patterns = [];
-  list = record { written = refl; sounds = refl; few = omega arith; short = omega arith };
-  named = refl;
-  within = λ k d l. absurd (omega (arith, l));
-  distinct = λ i j d m l. absurd (omega (arith, l));
-}
 
 pub notated_more : {xs bytes bytes' : List ℕ} {names : List Span} (n : Span) → Notated xs bytes names → Added bytes bytes' → length names < 32 → Within xs n → All (Unlike xs n) names
     → Notated xs bytes' (names ++ (n ∷ []))

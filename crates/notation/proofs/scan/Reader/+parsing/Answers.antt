@@ -1,5 +1,5 @@
 use Rattle.std.proofs.lemmas.Result.{on_ok_weaker}
-use Rattle.notation.proofs.Adding.{begun, parsed_infix, parsed_on, added_not, unions, intersections, sequences}
+use Rattle.notation.proofs.Adding.{parsed_infix, parsed_on, added_not, unions, intersections, sequences}
 use Rattle.notation.proofs.scan.Reader.+parsing.Goals as goal
 
 pub expression-returns : goal.expression-returns

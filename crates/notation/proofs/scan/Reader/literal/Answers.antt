@@ -2,7 +2,7 @@ use Rattle.std.proofs.Common.{refl}
 use Rattle.std.proofs.lemmas.Result.{on_ok_weaker}
 use Rattle.patterns.specs.Patterns.{empty}
 use Rattle.notation.proofs.Moving.{past_past, past_same}
-use Rattle.notation.proofs.Adding.{parsed_as, parsed_on}
+use Rattle.notation.proofs.Adding.{parsed_as}
 use Rattle.notation.proofs.scan.Reader.literal.Goals as goal
 
 pub returns-then-accept : goal.returns-then-accept
