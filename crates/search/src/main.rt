@@ -60,7 +60,7 @@ fn run(rt: &HostRuntime) -> Result<(), Failure> {
     }
     let at = divider(input).ok_or(Failure::NoList)?;
     let text = input.len().min(at + 4);
-    print_places(rt, "standard input", &input[0..at], &input[text..])
+    print_places(rt, "standard input", &input[..at], &input[text..])
 }
 
 // Reads the list, searches the text by definition and prints a line for each pattern: its name, and behind a colon each place
