@@ -5,7 +5,10 @@ use Rattle.std.proofs.lemmas.Bool.{and_from}
 use Rattle.std.specs.List.{insert, between}
 use Rattle.patterns.specs.Patterns.{Pattern, empty, range, seq, union, inter, compl, star}
 use Rattle.patterns.specs.Lists.{write, sound}
-use Rattle.notation.specs.Writing.{Put, Added, Keeps}
+use Rattle.notation.specs.declared.scan.Reader.{Reader}
+use Rattle.notation.specs.Reading.{Past}
+use Rattle.notation.specs.Writing.{Put, Added, Keeps, Parsed}
+use Rattle.notation.proofs.Moving.{past_past}
 
 -- bytes, and then more
 pub put_both : {xs u ys v zs : List ℕ} → Put xs u ys → Put ys v zs → Put xs (u ++ v) zs
@@ -21,10 +24,6 @@ added p s h = record { pattern = p; sounds = s; put = h }
 
 pub added_range : {xs ys : List ℕ} (a b : ℕ) → b < 256 → a ≤ b → Put xs (2 ∷ a ∷ b ∷ []) ys → Added xs ys
 added_range a b l m h = added (range a b) (and_from (ltb b 256) (leb a b) (lt-ltb b 256 l) (le-leb a b m)) h
-
--- what is written grows
-pub added_long : {xs ys : List ℕ} → Added xs ys → length xs ≤ length ys
-added_long {xs = xs} h = omega (arith, ap length h.put.is, length-append xs (write h.pattern))
 
 -- an operator of two patterns, by its byte
 pub record Operator (k : ℕ) : Type 0 where
@@ -98,11 +97,22 @@ keeps_again {xs = xs} {us = us} {vs = vs} start end l e f g s base m h =
       short = s;
     })
 
+-- a pattern whose bytes were written where the reader had come
+pub parsed_as : {s t : Reader} {xs ys : List ℕ} (p : Pattern) → sound p ≡ true → Past s t → Put xs (write p) ys → Parsed s t xs ys
+parsed_as p e h put = record { past = h; added = added p e put }
+
+pub parsed_byte : {s t : Reader} {xs ys : List ℕ} (b : ℕ) → b < 256 → Past s t → Put xs (2 ∷ b ∷ b ∷ []) ys → Parsed s t xs ys
+parsed_byte b l h put = record { past = h; added = added_range b b l (omega arith) put }
+
+-- a pattern read from further on, and one written while the reader went on
+pub parsed_on : {s t u : Reader} {xs ys : List ℕ} → Past s t → Parsed t u xs ys → Parsed s u xs ys
+parsed_on h g = record { past = past_past h g.past; added = g.added }
+
+-- two patterns and the byte of their operator between
+pub parsed_infix : {k : ℕ} (o : Operator k) {s t u : Reader} {xs us ys zs : List ℕ} {start n : ℕ} → start ≡ n → n ≡ length xs → Parsed s t xs us → ys ≡ insert us start k → Parsed t u ys zs → Parsed s u xs zs
+parsed_infix o {start = start} e f h i g = record { past = past_past h.past g.past; added = added_infix o start (sym (e ∙ f)) h.added i g.added }
+
 -- two promises of one call
 pub made_both : {X Y : Type 0} (r : Result X Y) {P Q R : Type 0} → IfOk r (λ _. P) → IfOk r (λ _. Q) → (P → Q → R) → IfOk r (λ _. R)
 made_both (Ok x) p q f = f p q
 made_both (Err y) p q f = tt
-
--- the place where a pattern began lies within what is written
-pub begun : {xs ys : List ℕ} (start n m : ℕ) → start ≡ n → n ≡ length xs → m ≡ length ys → Added xs ys → start ≤ m
-begun start n m e f g h = omega (arith, added_long h)

@@ -1,8 +1,7 @@
 -- Lines and columns, one byte after the other. Assumes nothing.
 --   Counted front i line column   the first i bytes are counted
-use Rattle.std.proofs.Common.{◌≡◌, ℕ, ◌+◌, ◌-◌, ◌<◌, ◌≤◌, min, cond, List, ◌∷◌, length, get_or, take, drop, sym, refl, ap, ◌∙◌, ⊎_elim, add-one, arith, take_all, drop-cons, eq-eqb, ne_eqb}
-use Rattle.std.proofs.lemmas.List.{at_drop_all}
-use Rattle.std.proofs.lemmas.Bool.{cases_lt}
+use Rattle.std.proofs.Common.{◌≡◌, ℕ, ◌+◌, ◌<◌, ◌≤◌, cond, List, length, get_or, drop, sym, ap, ◌∙◌, arith, eq-eqb, ne_eqb}
+use Rattle.std.proofs.lemmas.List.{at_drop_more, at_drop_all}
 use Rattle.notation.specs.Places.{line_from, column_from, line_of, column_of}
 
 pub record Counted (front : List ℕ) (i line column : ℕ) : Type 0 where
@@ -11,19 +10,13 @@ pub record Counted (front : List ℕ) (i line column : ℕ) : Type 0 where
   pub line_most : line ≤ 1 + i
   pub column_most : column ≤ 1 + i
 
-pub counted_none : (front : List ℕ) → Counted front 0 1 1
-counted_none front = record { lines = refl; columns = refl; line_most = omega arith; column_most = omega arith }
-
-one_more : {A : Type 0} (f : List ℕ → A) (xs : List ℕ) (i : ℕ) → i < length xs → f (drop i xs) ≡ f (get_or xs i 0 ∷ drop (i + 1) xs)
-one_more f xs i h = ap f (rw (add-one, drop-cons xs i 0))
-
 -- behind a line end
 pub counted_line : {xs : List ℕ} {i k j line column : ℕ} → Counted xs i k j → i < length xs → get_or xs i 0 ≡ 10 → line ≡ k + 1 → column ≡ 1 → Counted xs (i + 1) line column
 counted_line {xs = xs} {i = i} {k = k} {j = j} h l e p q =
     let test = eq-eqb (get_or xs i 0) 10 e in
     record {
-      lines = ap (λ n. line_from n (drop (i + 1) xs)) p ∙ sym (one_more (line_from k) xs i l ∙ ap (λ b. line_from (cond b (k + 1) k) (drop (i + 1) xs)) test) ∙ h.lines;
-      columns = ap (λ n. column_from n (drop (i + 1) xs)) q ∙ sym (one_more (column_from j) xs i l ∙ ap (λ b. column_from (cond b 1 (j + 1)) (drop (i + 1) xs)) test) ∙ h.columns;
+      lines = ap (λ n. line_from n (drop (i + 1) xs)) p ∙ sym (at_drop_more (line_from k) xs i 0 l ∙ ap (λ b. line_from (cond b (k + 1) k) (drop (i + 1) xs)) test) ∙ h.lines;
+      columns = ap (λ n. column_from n (drop (i + 1) xs)) q ∙ sym (at_drop_more (column_from j) xs i 0 l ∙ ap (λ b. column_from (cond b 1 (j + 1)) (drop (i + 1) xs)) test) ∙ h.columns;
       line_most = omega (arith, h.line_most);
       column_most = omega arith;
     }
@@ -33,8 +26,8 @@ pub counted_byte : {xs : List ℕ} {i k j line column : ℕ} → Counted xs i k 
 counted_byte {xs = xs} {i = i} {k = k} {j = j} h l e p q =
     let test = ne_eqb (get_or xs i 0) 10 e in
     record {
-      lines = ap (λ n. line_from n (drop (i + 1) xs)) p ∙ sym (one_more (line_from k) xs i l ∙ ap (λ b. line_from (cond b (k + 1) k) (drop (i + 1) xs)) test) ∙ h.lines;
-      columns = ap (λ n. column_from n (drop (i + 1) xs)) q ∙ sym (one_more (column_from j) xs i l ∙ ap (λ b. column_from (cond b 1 (j + 1)) (drop (i + 1) xs)) test) ∙ h.columns;
+      lines = ap (λ n. line_from n (drop (i + 1) xs)) p ∙ sym (at_drop_more (line_from k) xs i 0 l ∙ ap (λ b. line_from (cond b (k + 1) k) (drop (i + 1) xs)) test) ∙ h.lines;
+      columns = ap (λ n. column_from n (drop (i + 1) xs)) q ∙ sym (at_drop_more (column_from j) xs i 0 l ∙ ap (λ b. column_from (cond b 1 (j + 1)) (drop (i + 1) xs)) test) ∙ h.columns;
       line_most = omega (arith, h.line_most);
       column_most = omega (arith, h.column_most);
     }
@@ -42,10 +35,3 @@ counted_byte {xs = xs} {i = i} {k = k} {j = j} h l e p q =
 pub counted_all : {xs : List ℕ} {i line column : ℕ} → Counted xs i line column → length xs ≤ i → (line ≡ line_of xs) × (column ≡ column_of xs)
 counted_all {xs = xs} {i = i} {line = line} {column = column} h l =
     (sym (at_drop_all (line_from line) xs i l) ∙ h.lines, sym (at_drop_all (column_from column) xs i l) ∙ h.columns)
-
--- a front that ends where the text does, or before
-pub take_within : (at n : ℕ) (xs : List ℕ) → n ≡ min at (length xs) → take (n - 0) xs ≡ take at xs
-take_within at n xs e = ⊎_elim
-    (λ (l : at < length xs). ap (λ k. take k xs) (omega arith))
-    (λ (l : length xs ≤ at). take_all (n - 0) xs (omega arith) ∙ sym (take_all at xs l))
-    (cases_lt at (length xs))

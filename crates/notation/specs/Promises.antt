@@ -4,6 +4,7 @@
 --   Placed xs m              the mistake's line and column are those of a place of the text
 --   NotationRead xs r        what came of reading the text xs
 use Rattle.std.specs.Prelude.{◌≡◌, ℕ, ◌<◌, List, ◌++◌, length, Ok, Err, vec_items, Result}
+use Rattle.std.specs.List.{All}
 use Rattle.patterns.specs.Patterns.{Pattern}
 use Rattle.patterns.specs.Lists.{ListOf}
 use Rattle.notation.specs.declared.scan.Reader.{Reader}
@@ -15,13 +16,13 @@ use Rattle.notation.specs.declared.Notation.{Notation}
 use Rattle.notation.specs.Places.{line_of, column_of}
 use Rattle.notation.specs.Reading.{Past, Within}
 use Rattle.notation.specs.Writing.{Added}
-use Rattle.notation.specs.Names.{Each, Unlike, Distinct}
+use Rattle.notation.specs.Names.{Unlike, Distinct}
 
 pub record Notated (xs bytes : List ℕ) (names : List Span) : Type 0 where
   pub patterns : List Pattern
   pub list : ListOf bytes patterns
   pub named : length names ≡ length patterns
-  pub within : Each (Within xs) names
+  pub within : All (Within xs) names
   pub distinct : Distinct xs names
 
 -- one line was read from s to t: a new name, and a pattern
@@ -30,7 +31,7 @@ pub record Line (s t : Reader) (bytes bytes' : List ℕ) (names : List Span) (n 
   pub added : Added bytes bytes'
   pub room : length names < 32
   pub within : Within s.text.now n
-  pub new : Each (Unlike s.text.now n) names
+  pub new : All (Unlike s.text.now n) names
 
 pub record Placed (xs : List ℕ) (m : Mistake) : Type 0 where
   pub front : List ℕ

@@ -15,6 +15,8 @@ use patterns::node::Node;
 pub const MOST_NESTING: usize = 500;
 
 impl Reader<'_> {
+    // A function for each line of the grammar: one for the three operators would have to match on which it is three times.
+
     // p | q
     #[cycle(parsing)]
     pub fn expression(&mut self, list: &mut Vec<u8>, depth: usize) -> Result<(), Fault>

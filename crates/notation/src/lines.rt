@@ -1,7 +1,8 @@
 // One line of a text: a new name, a colon and an expression.
 ghost use Rattle.std.specs.Prelude.{◌≡◌, false, IfOk};
+ghost use Rattle.std.specs.List.{All};
 ghost use Rattle.notation.specs.Reading.{Within};
-ghost use Rattle.notation.specs.Names.{Each, Unlike};
+ghost use Rattle.notation.specs.Names.{Unlike};
 ghost use Rattle.notation.specs.Promises.{Line};
 
 use crate::error::{Expected, Fault};
@@ -11,7 +12,7 @@ use patterns::list::MOST_PATTERNS;
 impl Reader<'_> {
     // Reads the line, writes its pattern and gives its name, which none of the names before it is.
     pub fn line(&mut self, list: &mut Vec<u8>, names: &[Span]) -> Result<Span, Fault>
-        requires { Each (Within self.old.text.now) names.now }
+        requires { All (Within self.old.text.now) names.now }
         ensures { IfOk result (λ n. Line self.old self.new list.old.items list.new.items names.now n) }
     {
         let text = self.text;
@@ -33,10 +34,9 @@ impl Reader<'_> {
 
 // Whether the name is the same word as one of the names before it.
 fn is_used(text: &[u8], names: &[Span], name: Span) -> bool
-    requires names { Each (Within text.now) names.now }
+    requires names { All (Within text.now) names.now }
     requires name { Within text.now name }
-    ensures { result ≡ false → Each (Unlike text.now name) names.now }
+    ensures { result ≡ false → All (Unlike text.now name) names.now }
 {
-    let word = name.of(text);
-    names.iter().any(|other| other.of(text) == word)
+    names.iter().any(|other| other.of(text) == name.of(text))
 }

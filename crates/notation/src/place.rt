@@ -25,7 +25,7 @@ fn locate(text: &[u8], at: usize, expected: Expected) -> Mistake
     ensures column { result.column ≡ column_of (take at text.now) }
     ensures expected { result.expected ≡ expected }
 {
-    let front = &text[0..at.min(text.len())];
+    let front = &text[..at.min(text.len())];
     let mut line = 1;
     let mut column = 1;
     for byte in front {

@@ -1,5 +1,5 @@
 // The text and the place that reading has come to: bytes, what separates them, and names.
-ghost use Rattle.std.specs.Prelude.{◌≡◌, ◌+◌, ◌<◌, ◌≤◌, length, IfOk, MatchBool, MatchOption, OnOk, ◌||◌, ◌==◌, slice_index};
+ghost use Rattle.std.specs.Prelude.{◌≡◌, ◌+◌, ◌<◌, ◌≤◌, [], length, IfOk, MatchBool, MatchOption, OnOk, ◌||◌, ◌==◌, slice_index};
 ghost use Rattle.std.specs.Char.{is_ascii_alphabetic};
 ghost use Rattle.notation.specs.Names.{word_of};
 ghost use Rattle.notation.specs.Reading.{On, Past, Within};
@@ -17,6 +17,7 @@ impl Span {
     // The bytes that it holds of a text; none where it lies outside.
     pub fn of(self, text: &[u8]) -> &[u8]
         ensures within { Within text.now self → result.now ≡ word_of text.now self }
+        ensures outside { length text.now < self.end → result.now ≡ [] }
     {
         text.get(self.start..self.end).unwrap_or(&[])
     }

@@ -4,11 +4,10 @@
 
 mod printing;
 
-use notation::Span;
 use patterns::direct::{Searched, matches, search};
 use printing::{divider, places};
-use std::alloc::AllocError;
-use std::fmt::Write;
+use std::alloc::{AllocError, Global};
+use std::fmt::{Display, Write};
 use std::io::Read;
 use std::process::ExitCode;
 use std::{env, fs, io};
@@ -27,6 +26,13 @@ enum Failure {
     Io(#[from] io::Error),
     #[error("{0}")]
     Memory(#[from] AllocError),
+}
+
+impl Failure {
+    // What is wrong with a list, with the name of where it comes from in front.
+    fn of(heap: Global, source: &str, error: &impl Display) -> Failure {
+        format!(in heap; "{source}: {error}").map_or_else(Failure::Memory, Failure::Message)
+    }
 }
 
 fn main(rt: HostRuntime) -> io::Result<ExitCode> {
@@ -48,76 +54,35 @@ fn run(rt: &HostRuntime) -> Result<(), Failure> {
     let _program = args.next();
     let input = input.as_slice();
     if let Some(path) = args.next() {
-        let list = read_file(rt, path.as_str())?;
-        return print_places(rt, path.as_str(), list.as_slice(), input);
+        let source = path.as_str();
+        let list = fs::read(rt, source).map_err(|error| Failure::of(rt.alloc(), source, &error))?;
+        return print_places(rt, source, list.as_slice(), input);
     }
-    let Some(at) = divider(input) else {
-        return Err(Failure::NoList);
-    };
+    let at = divider(input).ok_or(Failure::NoList)?;
     let text = input.len().min(at + 4);
-    print_places(rt, "standard input", &input[0..at], &input[text..])
+    print_places(rt, "standard input", &input[..at], &input[text..])
 }
 
-// The bytes of a file; a refusal names it.
-fn read_file(rt: &HostRuntime, path: &str) -> Result<Vec<u8>, Failure> {
-    match fs::read(rt, path) {
-        Ok(bytes) => Ok(bytes),
-        Err(error) => {
-            let message = format!(in rt.alloc(); "{path}: {error}")?;
-            Err(Failure::Message(message))
-        }
-    }
-}
-
-// Reads the list, searches the text by definition and prints a line for each pattern.
+// Reads the list, searches the text by definition and prints a line for each pattern: its name, and behind a colon each place
+// after which it ends. Place 0 is before the first byte.
 fn print_places(rt: &HostRuntime, source: &str, list: &[u8], text: &[u8]) -> Result<(), Failure> {
     let heap = rt.alloc();
-    let notation = match notation::read(heap, list) {
-        Ok(notation) => notation,
-        Err(error) => {
-            let message = format!(in heap; "{source}: {error}")?;
-            return Err(Failure::Message(message));
-        }
-    };
+    let notation = notation::read(heap, list).map_err(|error| Failure::of(heap, source, &error))?;
     let bytes = notation.bytes.as_slice();
     let mut ends = vec![in heap; 0u32; text.len()]?;
     let Searched::Read = search(bytes, text, ends.as_mut_slice()) else {
         return Err(Failure::NotSearched);
     };
     for (index, name) in notation.names.iter().enumerate() {
-        print_line(rt, list, *name, bytes, index, ends.as_slice())?;
+        let mut line = String::from_utf8_lossy(heap, name.of(list))?;
+        line.push(':')?;
+        if let Some(true) = matches(bytes, index, b"") {
+            line.push_str(" 0")?;
+        }
+        for place in places(heap, ends.as_slice(), index)?.iter() {
+            write!(line, " {place}")?;
+        }
+        rt.println(line.as_str())?;
     }
     Ok(())
-}
-
-// The name, and behind a colon each place after which the pattern ends; place 0 is before the first byte.
-fn print_line(
-    rt: &HostRuntime,
-    list: &[u8],
-    name: Span,
-    bytes: &[u8],
-    index: usize,
-    ends: &[u32],
-) -> Result<(), Failure> {
-    let mut line = String::from_utf8_lossy(rt.alloc(), name_of(list, name))?;
-    line.push(':')?;
-    if let Some(true) = matches(bytes, index, b"") {
-        line.push_str(" 0")?;
-    }
-    for place in places(rt.alloc(), ends, index)?.iter() {
-        write!(line, " {place}")?;
-    }
-    rt.println(line.as_str())?;
-    Ok(())
-}
-
-// The bytes of a name; none where the span lies outside.
-fn name_of(list: &[u8], name: Span) -> &[u8] {
-    let start = name.start;
-    let end = name.end;
-    if start <= end && end <= list.len() {
-        &list[start..end]
-    } else {
-        &list[0..0]
-    }
 }

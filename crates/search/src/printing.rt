@@ -8,13 +8,11 @@ use std::alloc::{AllocError, Global};
 pub fn places(heap: Global, ends: &[u32], index: usize) -> Result<Vec<usize>, AllocError>
     ensures { IfOk result (λ v. v.items ≡ places_of index 1 ends.now) }
 {
-    let mut found = Vec::new(heap);
-    for (i, bits) in ends.iter().enumerate() {
-        if is_set(*bits, index) {
-            found.push(i + 1)?;
-        }
-    }
-    Ok(found)
+    ends.iter()
+        .enumerate()
+        .filter(|(_, bits)| is_set(**bits, index))
+        .map(|(i, _)| i + 1)
+        .collect(heap)
 }
 
 fn is_set(bits: u32, index: usize) -> bool
@@ -27,12 +25,7 @@ fn is_set(bits: u32, index: usize) -> bool
 pub fn divider(input: &[u8]) -> Option<usize>
     ensures { RuleFound input.now result }
 {
-    for at in 0..input.len() {
-        if is_rule(input, at) {
-            return Some(at);
-        }
-    }
-    None
+    (0..input.len()).find(|at| is_rule(input, *at))
 }
 
 // Whether a line of three dashes begins here.
@@ -40,17 +33,7 @@ fn is_rule(input: &[u8], at: usize) -> bool
     requires { at ≤ length input.now }
     ensures { MatchBool result (Rule input.now at) (Rule input.now at → ⊥) }
 {
-    if input.len() - at < 3 {
-        return false;
-    }
-    if input[at] != b'-' || input[at + 1] != b'-' || input[at + 2] != b'-' {
-        return false;
-    }
-    if at > 0 && input[at - 1] != b'\n' {
-        return false;
-    }
-    if input.len() - at == 3 {
-        return true;
-    }
-    input[at + 3] == b'\n'
+    let (front, rest) = input.split_at(at);
+    let begins = matches!(front, [] | [.., b'\n']);
+    begins && matches!(rest, [b'-', b'-', b'-'] | [b'-', b'-', b'-', b'\n', ..])
 }

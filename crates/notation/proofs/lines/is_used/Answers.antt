@@ -1,12 +1,12 @@
-use Rattle.std.proofs.Common.{refl, sym, ◌∙◌, rules, tests}
+use Rattle.std.proofs.Common.{refl, arith, rules, tests}
+use Rattle.std.proofs.lemmas.Bool.Decides.{when_false}
 use Rattle.std.proofs.lemmas.Iterator.{cases_from_any, YieldsList-from_slice}
 use Rattle.notation.specs.Reading.{Within}
 use Rattle.notation.specs.Names.{Unlike}
-use Rattle.notation.proofs.Naming.{each_all}
 use Rattle.notation.proofs.lines.is_used.Goals as goal
 
 pub returns : goal.returns
-returns c = λ e.
+returns c = λ e k d l.
     let text = c.args.text.now in
-    let by_call = cases_from_any _ _ _ (λ _. Unit {0}) (λ x. Within text x → Unlike text c.args.name x) c.any.ensures.ran (YieldsList-from_slice c.args.names.now cc) (λ x q k. tt) (λ x q k. (search (rules, tests), λ w s. k.met.0 refl w (s ∙ sym (c.of-word.ensures.within c.requires.name)))) in
-    each_all (Within text) (Unlike text c.args.name) _ _ e by_call c.requires.names
+    let found = cases_from_any _ _ _ (λ _. Unit {0}) (λ x. Within text x → Unlike text c.args.name x) c.any.ensures.ran (YieldsList-from_slice c.args.names.now cc) (λ x q a. tt) (λ x q a. (search (rules, tests), λ w. a.met.0 refl c.requires.name w)) in
+    when_false _ _ e found k d (omega arith) l (c.requires.names k d l)

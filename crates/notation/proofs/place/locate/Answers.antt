@@ -1,11 +1,9 @@
-use Rattle.std.proofs.Common.{refl, ap, ◌∙◌}
+use Rattle.std.proofs.Common.{take, refl, ap, ◌∙◌}
+use Rattle.std.proofs.lemmas.List.{take_min}
 use Rattle.notation.specs.Places.{line_of, column_of}
-use Rattle.notation.proofs.Placing.{counted_none, counted_line, counted_byte, counted_all, take_within}
+use Rattle.notation.proofs.Placing.{counted_line, counted_byte, counted_all}
 use Rattle.notation.proofs.place.locate.Goals as goal
 use Rattle.notation.proofs.place.locate.Goals.{then-byte-eq10, else-byte-eq10}
-
-pub loop-byte-init : goal.loop-byte-init
-loop-byte-init c = counted_none _
 
 pub loop-byte-preserved : goal.loop-byte-preserved
 loop-byte-preserved c =
@@ -17,5 +15,5 @@ loop-byte-preserved c =
 pub returns : goal.returns
 returns c =
     let all = counted_all c.loop-byte.invariant c.loop-byte-test.false in
-    let front = take_within c.args.at c.min.result c.args.text.now c.min.ensures in
+    let front = ap (λ k. take k c.args.text.now) c.min.ensures ∙ take_min c.args.at c.args.text.now in
     record { line = all.0 ∙ ap line_of front; column = all.1 ∙ ap column_of front; expected = refl }

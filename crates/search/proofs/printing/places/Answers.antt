@@ -1,22 +1,14 @@
-use Rattle.std.proofs.Common.{ℕ, ◌+◌, List, [], ◌∷◌, ◌++◌, drop, vec_items, sym, refl, ap, ◌∙◌}
-use Rattle.std.proofs.lemmas.Slice.{pushed}
-use Rattle.search.specs.Printing.{places}
-use Rattle.search.proofs.Marking.{places_set, places_unset, places_all}
+use Rattle.std.proofs.Common.{ℕ, ◌+◌, ◌∙◌, rules, tests}
+use Rattle.std.proofs.lemmas.Iterator.{items_from_collect, YieldsList-from_slice, YieldsList-from_map}
+use Rattle.std.proofs.lemmas.Iterator.Consumers.{YieldsList-at, YieldsList-from_enumerate, YieldsList-from_filter}
+use Rattle.std.proofs.lemmas.Result.{IfOk-weaker}
+use Rattle.search.proofs.Marking.{marked, places_marked}
 use Rattle.search.proofs.printing.places.Goals as goal
-use Rattle.search.proofs.printing.places.Goals.{then-is_set+in_ok-push, else-is_set}
-
-pub loop-i-preserved : goal.loop-i-preserved
-loop-i-preserved c =
-    let rest = places c.args.index (c.loop-i.i + 1 + 1) (drop (c.loop-i.i + 1) c.args.ends.now) in
-    elim c.if-is_set.branch [
-      | then-is_set+in_ok-push w ↦
-          ap (λ f. vec_items f ++ rest) w.found-is
-          ∙ ap (λ (xs : List ℕ). xs ++ rest) (pushed ((c.loop-i.i + 1) ∷ []) refl w.in_ok-push.was w.push.ensures.items)
-          ∙ places_set c.args.index c.args.ends.now c.loop-i.i (vec_items c.loop-i.found) c.loop-i.invariant c.loop-i-test.true (sym c.is_set.ensures ∙ w.if-is_set.true)
-      | else-is_set w ↦
-          ap (λ f. vec_items f ++ rest) w.found-is
-          ∙ places_unset c.args.index c.args.ends.now c.loop-i.i (vec_items c.loop-i.found) c.loop-i.invariant c.loop-i-test.true (sym c.is_set.ensures ∙ w.if-is_set.false)
-    ]
 
 pub returns : goal.returns
-returns c = places_all _ _ _ _ c.loop-i.invariant c.loop-i-test.false
+returns c =
+    IfOk-weaker c.collect.result _ _ (λ v h. h ∙ places_marked c.args.index 0 c.args.ends.now)
+    (items_from_collect _ c.collect.ensures.ran
+    (YieldsList-from_map _ (λ (q : ℕ × ℕ). q.0 + 1)
+    (YieldsList-at c.map.ensures.source (YieldsList-from_filter _ (marked c.args.index) (YieldsList-from_enumerate (YieldsList-from_slice c.args.ends.now cc) cc) c.filter.ensures.closure (λ x r q k. search (rules, tests))))
+    c.map.ensures.closure (λ x r q k. search (rules, tests))))

@@ -1,53 +1,19 @@
-use Rattle.std.proofs.Common.{sym, ◌∙◌}
-use Rattle.std.proofs.lemmas.Result.{IfOk-weaker}
-use Rattle.notation.proofs.Moving.{past_past}
-use Rattle.notation.proofs.Adding.{begun, added_infix, added_not, unions, intersections, sequences}
+use Rattle.std.proofs.lemmas.Result.{on_ok_weaker}
+use Rattle.notation.proofs.Adding.{parsed_infix, parsed_on, added_not, unions, intersections, sequences}
 use Rattle.notation.proofs.scan.Reader.+parsing.Goals as goal
-
-pub expression-put_before-requires : goal.expression-put_before-requires
-expression-put_before-requires t c = begun _ _ _ c.len-start.ensures c.args.list.now.ok.0 c.conjunction.new.list.ok.0 c.in_ok-conjunction.ensures.added
 
 pub expression-returns : goal.expression-returns
 expression-returns t c =
-    let first = c.in_ok-conjunction.ensures in
-    IfOk-weaker c.expression.result _ _
-    (λ _ h. record {
-      past = past_past first.past (past_past c.if-not-accept.ensures h.past);
-      added = added_infix unions c.len-start.result (sym (c.len-start.ensures ∙ c.args.list.now.ok.0)) first.added c.in_ok-put_before.ensures.items h.added;
-    })
-    c.expression.ensures
-
-pub conjunction-put_before-requires : goal.conjunction-put_before-requires
-conjunction-put_before-requires t c = begun _ _ _ c.len-start.ensures c.args.list.now.ok.0 c.sequence.new.list.ok.0 c.in_ok-sequence.ensures.added
+    on_ok_weaker c.expression.result (λ h. parsed_infix unions c.len-start.ensures c.args.list.now.ok.0 c.in_ok-conjunction.ensures c.in_ok-put_before.ensures.items (parsed_on c.if-not-accept.ensures h)) c.expression.ensures
 
 pub conjunction-returns : goal.conjunction-returns
 conjunction-returns t c =
-    let first = c.in_ok-sequence.ensures in
-    IfOk-weaker c.conjunction.result _ _
-    (λ _ h. record {
-      past = past_past first.past (past_past c.if-not-accept.ensures h.past);
-      added = added_infix intersections c.len-start.result (sym (c.len-start.ensures ∙ c.args.list.now.ok.0)) first.added c.in_ok-put_before.ensures.items h.added;
-    })
-    c.conjunction.ensures
-
-pub sequence-put_before-requires : goal.sequence-put_before-requires
-sequence-put_before-requires t c = begun _ _ _ c.len-start.ensures c.args.list.now.ok.0 c.negation.new.list.ok.0 c.in_ok-negation.ensures.added
+    on_ok_weaker c.conjunction.result (λ h. parsed_infix intersections c.len-start.ensures c.args.list.now.ok.0 c.in_ok-sequence.ensures c.in_ok-put_before.ensures.items (parsed_on c.if-not-accept.ensures h)) c.conjunction.ensures
 
 pub sequence-returns : goal.sequence-returns
 sequence-returns t c =
-    let first = c.in_ok-negation.ensures in
-    IfOk-weaker c.sequence.result _ _
-    (λ _ h. record {
-      past = past_past first.past h.past;
-      added = added_infix sequences c.len-start.result (sym (c.len-start.ensures ∙ c.args.list.now.ok.0)) first.added c.in_ok-put_before.ensures.items h.added;
-    })
-    c.sequence.ensures
+    on_ok_weaker c.sequence.result (λ h. parsed_infix sequences c.len-start.ensures c.args.list.now.ok.0 c.in_ok-negation.ensures c.in_ok-put_before.ensures.items h) c.sequence.ensures
 
 pub negation-returns : goal.negation-returns
 negation-returns t c =
-    IfOk-weaker c.negation.result _ _
-    (λ _ h. record { past = past_past c.if-not-accept.ensures h.past; added = added_not c.in_ok-put.ensures h.added })
-    c.negation.ensures
-
-pub repetition-repetitions-requires : goal.repetition-repetitions-requires
-repetition-repetitions-requires t c = begun _ _ _ c.len-start.ensures c.args.list.now.ok.0 c.atom.new.list.ok.0 c.in_ok-atom.ensures.added
+    on_ok_weaker c.negation.result (λ h. parsed_on c.if-not-accept.ensures (record { past = h.past; added = added_not c.in_ok-put.ensures h.added })) c.negation.ensures

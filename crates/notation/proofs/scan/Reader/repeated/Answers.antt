@@ -8,9 +8,6 @@ returns-then-accept c =
     let put = c.in_ok-put_before.ensures in
     record { past = c.if-accept.ensures; long = omega (arith, c.requires, put.len); keeps = keeps_star c.args.start put.items put.short }
 
-pub put_before-requires-then-accept-3-2 : goal.put_before-requires-then-accept-3-2
-put_before-requires-then-accept-3-2 c = omega (arith, c.requires, c.in_ok-put_before-2.ensures.len)
-
 pub returns-then-accept-3 : goal.returns-then-accept-3
 returns-then-accept-3 c =
     let first = c.in_ok-put_before-2.ensures in
