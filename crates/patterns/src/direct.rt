@@ -88,12 +88,7 @@ fn ends_after(list: &[u8], at: usize, text: &[u8]) -> bool
     requires { SomePattern list.now at }
     ensures { EndsAt list.now at text.now result }
 {
-    for start in 0..=text.len() {
-        if matches_at(list, at, &text[start..]) {
-            return true;
-        }
-    }
-    false
+    (0..=text.len()).any(|start| matches_at(list, at, &text[start..]))
 }
 
 // The patterns of the list that end after the text, as bits, the first lowest.

@@ -5,7 +5,7 @@
 mod printing;
 
 use notation::Span;
-use patterns::direct::{Searched, matches, search};
+use patterns::direct::{matches, search};
 use printing::{divider, places};
 use std::alloc::AllocError;
 use std::fmt::Write;
@@ -81,9 +81,7 @@ fn print_places(rt: &HostRuntime, source: &str, list: &[u8], text: &[u8]) -> Res
     };
     let bytes = notation.bytes.as_slice();
     let mut ends = vec![in heap; 0u32; text.len()]?;
-    let Searched::Read = search(bytes, text, ends.as_mut_slice()) else {
-        return Err(Failure::NotSearched);
-    };
+    search(bytes, text, ends.as_mut_slice()).map_err(|_| Failure::NotSearched)?;
     for (index, name) in notation.names.iter().enumerate() {
         print_line(rt, list, *name, bytes, index, ends.as_slice())?;
     }
