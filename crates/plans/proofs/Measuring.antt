@@ -5,7 +5,7 @@ use Rattle.std.proofs.lemmas.Bool.{cases_eq}
 use Rattle.patterns.specs.declared.node.Node.{Node}
 use Rattle.patterns.specs.Patterns.{Pattern, nothing, empty, range, seq, union, inter, compl, star}
 use Rattle.patterns.specs.Nodes.{arity}
-use Rattle.patterns.specs.Promises.{NodeAt, PatternAt}
+use Rattle.patterns.specs.Promises.{PatternAt}
 use Rattle.patterns.proofs.Places.{stands_stop}
 use Rattle.patterns.proofs.Trees.{parts_of, parts_many, write_long}
 use Rattle.patterns.proofs.Extents.{PartsAt, parts_first, pattern_later, NodeTo, node_later, pattern_opened, end_one, end_two_none}
