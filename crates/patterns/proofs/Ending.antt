@@ -274,9 +274,6 @@ passing_end {s = s} xs i t u e a y step ps o =
 pub record Searching (s : List ℕ) (w : Word) (o : List ℕ) (i : ℕ) : Type 0 where
   pub written : (ps : List Pattern) → ListOf s ps → take i o ++ ends_along ps (take i w) (drop i w) ≡ ends_along ps [] w
 
-pub searching_none : (s : List ℕ) (w : Word) (o : List ℕ) → Searching s w o 0
-searching_none s w o = record { written = λ ps h. refl }
-
 pub searching_more : {s : List ℕ} {w : Word} {o : List ℕ} {i : ℕ} (bits : ℕ) → i < length w → length w ≤ length o → BitsAfter s (take (i + 1) w) bits
     → Searching s w o i → Searching s w (set o i bits) (i + 1)
 searching_more {s = s} {w = w} {o = o} {i = i} bits l room b h =
