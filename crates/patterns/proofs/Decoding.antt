@@ -121,18 +121,3 @@ module _ (s : List ℕ) (at : ℕ) (there : at < length s) (kind : get_or s at 0
     where
       straight : (a b : ℕ) → b < 256 → a ≤ b → cond (ltb b 256 && leb a b) (Some (Range a b)) None ≡ Some (Range a b)
       straight a b byte l = grind (arith, nat_tests)
-
--- bytes above 7 begin no node
-decode_other : (k : ℕ) (s : List ℕ) → 7 < k → decode_kind k s ≡ None
-decode_other zero s h = absurd (omega arith)
-decode_other (suc zero) s h = absurd (omega arith)
-decode_other (suc (suc zero)) s h = absurd (omega arith)
-decode_other (suc (suc (suc zero))) s h = absurd (omega arith)
-decode_other (suc (suc (suc (suc zero)))) s h = absurd (omega arith)
-decode_other (suc (suc (suc (suc (suc zero))))) s h = absurd (omega arith)
-decode_other (suc (suc (suc (suc (suc (suc zero)))))) s h = absurd (omega arith)
-decode_other (suc (suc (suc (suc (suc (suc (suc zero))))))) s h = absurd (omega arith)
-decode_other (suc (suc (suc (suc (suc (suc (suc (suc k)))))))) s h = refl
-
-pub node_read_other : (s : List ℕ) (at : ℕ) → at < length s → 7 < get_or s at 0 → NodeRead s at None
-node_read_other s at h l = node_read_at s at (get_or s at 0) None h refl (decode_other (get_or s at 0) (drop (at + 1) s) l)

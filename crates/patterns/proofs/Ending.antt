@@ -3,6 +3,7 @@ use Rattle.std.proofs.Common.{◌≡◌, ℕ, zero, suc, ◌+◌, ◌-◌, ◌*�
 use mathlib.Core.Option.{some}
 use lib.Bits.{bit_or, or_shifted_r}
 use Rattle.std.proofs.lemmas.Nat.{one_shl}
+use Rattle.std.specs.Bool.{MatchBool}
 use Rattle.std.specs.Iterator.{Yields}
 use Rattle.std.proofs.lemmas.List.{take_at, drop_at, take_all, length-drop, length_push, take_rest, take_more, take_more_set, append_assoc, append-nil, drop_all, drop_more}
 use Rattle.std.proofs.lemmas.Bool.{and_from, and_right, le-leb}
@@ -37,15 +38,12 @@ anything_matches w h = words_many (matches (range 0 255)) (length w) w (single_b
 
 -- a pattern ends where a last part matches
 module _ (p : Pattern) (w : Word) (bytes : Bytes w) where
-  pub ends_some : (k : ℕ) (x : Bool) → k ≤ length w → x ≡ matches p (take (length w - k) (drop k w)) → x ≡ true → true ≡ matches (anywhere p) w
-  ends_some k x l a t =
-      sym (cut_some (matches (star (range 0 255))) (matches p) w (length w) k l (and_from _ _ (anything_matches (take k w) (bytes_take k w bytes)) (ap (matches p) (sym (take_rest w k)) ∙ sym a ∙ t)))
-
-  pub ends_fails : (k : ℕ) (x : Bool) → x ≡ matches p (take (length w - k) (drop k w)) → x ≡ false → matches p (drop k w) ≡ false
-  ends_fails k x a f = ap (matches p) (sym (take_rest w k)) ∙ sym a ∙ f
-
-  pub ends_none : ((k : ℕ) → k ≤ length w → matches p (drop k w) ≡ false) → false ≡ matches (anywhere p) w
-  ends_none h = sym (cut_none (matches (star (range 0 255))) (matches p) w (length w) (λ k l. and_right _ _ (h k l)))
+  pub ends_if : (r : Bool) → MatchBool r ((k : ℕ) × (k ≤ length w) × (true ≡ matches p (take (length w - k) (drop k w)))) ((k : ℕ) → k ≤ length w → false ≡ matches p (take (length w - k) (drop k w)))
+      → r ≡ matches (anywhere p) w
+  ends_if true (k, l, h) =
+      sym (cut_some (matches (star (range 0 255))) (matches p) w (length w) k l (and_from _ _ (anything_matches (take k w) (bytes_take k w bytes)) (ap (matches p) (sym (take_rest w k)) ∙ sym h)))
+  ends_if false h =
+      sym (cut_none (matches (star (range 0 255))) (matches p) w (length w) (λ k l. and_right _ _ (ap (matches p) (sym (take_rest w k)) ∙ sym (h k l))))
 
 -- The list's patterns from a place on, and the bits of those before it.
 pub record Collecting (s : List ℕ) (w : Word) (bits at index : ℕ) : Type 0 where
@@ -275,9 +273,6 @@ passing_end {s = s} xs i t u e a y step ps o =
 -- The bits after the first i bytes of a text are written; what is to come is the bits after the others.
 pub record Searching (s : List ℕ) (w : Word) (o : List ℕ) (i : ℕ) : Type 0 where
   pub written : (ps : List Pattern) → ListOf s ps → take i o ++ ends_along ps (take i w) (drop i w) ≡ ends_along ps [] w
-
-pub searching_none : (s : List ℕ) (w : Word) (o : List ℕ) → Searching s w o 0
-searching_none s w o = record { written = λ ps h. refl }
 
 pub searching_more : {s : List ℕ} {w : Word} {o : List ℕ} {i : ℕ} (bits : ℕ) → i < length w → length w ≤ length o → BitsAfter s (take (i + 1) w) bits
     → Searching s w o i → Searching s w (set o i bits) (i + 1)

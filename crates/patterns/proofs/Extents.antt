@@ -187,9 +187,6 @@ pub record Reading (s : List ℕ) (at count : ℕ) : Type 0 where
   pub front : PartsAt s 0 ps at
   pub many : length ps ≡ count
 
-pub reading_none : (s : List ℕ) → Reading s 0 0
-reading_none s = record { ps = []; front = parts_none s 0 (omega arith); many = refl }
-
 parts_push : {s : List ℕ} {at : ℕ} {ps : List Pattern} {mid : ℕ} {p : Pattern} {stop : ℕ} → PartsAt s at ps mid → PatternAt s mid p stop → PartsAt s at (ps ++ p ∷ []) stop
 parts_push {s = s} {ps = ps} {p = p} {stop = stop} a h = record {
   is = a.is ∙ ap (λ r. write_list ps ++ r) (h.stands.is ∙ ap (λ w. w ++ drop stop s) (sym (append-nil (write p)))) ∙ sym (append_assoc (write_list ps) (write p ++ []) (drop stop s)) ∙ ap (λ w. w ++ drop stop s) (sym (write_append ps (p ∷ [])));

@@ -4,5 +4,6 @@ pub mod Trees
 pub mod Extents
 pub mod Cutting
 pub mod Matching
+pub mod Ranges
 pub mod Ending
 pub mod FedPieces

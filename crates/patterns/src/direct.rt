@@ -58,6 +58,7 @@ fn sequence_matches(list: &[u8], first: usize, second: usize, word: &[u8]) -> bo
     requires order { first < second }
     ensures { SequenceMatches list.now first second word.now result }
 {
+    // A loop: in a cycle of calls a closure for `any` would have to say the contract again.
     for cut in 0..=word.len() {
         if matches_at(list, first, &word[0..cut]) && matches_at(list, second, &word[cut..]) {
             return true;
@@ -75,6 +76,7 @@ fn star_matches(list: &[u8], at: usize, word: &[u8]) -> bool
     if word.is_empty() {
         return true;
     }
+    // A loop, as above.
     for cut in 1..=word.len() {
         if matches_at(list, at, &word[0..cut]) && star_matches(list, at, &word[cut..]) {
             return true;
@@ -88,12 +90,7 @@ fn ends_after(list: &[u8], at: usize, text: &[u8]) -> bool
     requires { SomePattern list.now at }
     ensures { EndsAt list.now at text.now result }
 {
-    for start in 0..=text.len() {
-        if matches_at(list, at, &text[start..]) {
-            return true;
-        }
-    }
-    false
+    (0..=text.len()).any(|start| matches_at(list, at, &text[start..]))
 }
 
 // The patterns of the list that end after the text, as bits, the first lowest.

@@ -58,10 +58,8 @@ impl Node {
 pub fn read_node(list: &[u8], at: usize) -> Option<Node>
     ensures { NodeRead list.now at result }
 {
-    if at >= list.len() {
-        return None;
-    }
-    match list[at] {
+    let kind = *list.get(at)?;
+    match kind {
         0 => Some(Node::Nothing),
         1 => Some(Node::Empty),
         2 => read_range(list, at),
@@ -80,11 +78,8 @@ fn read_range(list: &[u8], at: usize) -> Option<Node>
     requires range { slice_index list.now at ≡ 2 }
     ensures { NodeRead list.now at result }
 {
-    if list.len() - at < 3 {
-        return None;
-    }
-    let low = list[at + 1];
-    let high = list[at + 2];
+    let low = *list.get(at + 1)?;
+    let high = *list.get(at + 2)?;
     if high < low {
         return None;
     }

@@ -13,9 +13,6 @@ use Rattle.plans.specs.Dividing.{marks, Marked, Divided, ColumnsOf}
 one_node : {s : List ℕ} {at : ℕ} {m n : Node} → NodeAt s at m → NodeAt s at n → m ≡ n
 one_node {m = m} {n = n} a b = let e : Some m ≡ Some n = sym (node_decode a) ∙ node_decode b in cc
 
-pub marked_none : (s cuts : List ℕ) → Marked s cuts 0
-marked_none s cuts = record { begins = λ at l. absurd (omega arith); behind = λ at l. absurd (omega arith) }
-
 -- no node at this place
 pub marked_past : {s cuts : List ℕ} {at : ℕ} → Marked s cuts at → ((n : Node) → NodeAt s at n → ⊥) → Marked s cuts (at + 1)
 marked_past {s = s} {cuts = cuts} {at = at} M fails = record {

@@ -1,11 +1,11 @@
 -- Where patterns end and how many tables they need, from what is known of their parts. Assumes nothing.
-use Rattle.std.proofs.Common.{◌≡◌, ℕ, ◌+◌, ◌<◌, ◌≤◌, List, [], ◌∷◌, Some, None, Option, length, get_or, set, sym, refl, ap, ◌∙◌, subst, ⊎_elim, arith, get_or-set_other, get_or-set_same}
+use Rattle.std.proofs.Common.{◌≡◌, ℕ, ◌+◌, ◌<◌, ◌≤◌, List, [], ◌∷◌, Some, None, Option, length, sym, refl, ap, ◌∙◌, subst, ⊎_elim, arith}
 use Rattle.std.proofs.lemmas.List.{length-drop}
 use Rattle.std.proofs.lemmas.Bool.{cases_eq}
 use Rattle.patterns.specs.declared.node.Node.{Node}
 use Rattle.patterns.specs.Patterns.{Pattern, nothing, empty, range, seq, union, inter, compl, star}
 use Rattle.patterns.specs.Nodes.{arity}
-use Rattle.patterns.specs.Promises.{NodeAt, PatternAt}
+use Rattle.patterns.specs.Promises.{PatternAt}
 use Rattle.patterns.proofs.Places.{stands_stop}
 use Rattle.patterns.proofs.Trees.{parts_of, parts_many, write_long}
 use Rattle.patterns.proofs.Extents.{PartsAt, parts_first, pattern_later, NodeTo, node_later, pattern_opened, end_one, end_two_none}
@@ -127,15 +127,3 @@ measured_past {s = s} {at = at} M near fails = record {
   where
     here : (k : ℕ) → k ≡ at → (p : Pattern) (stop : ℕ) → PatternAt s k p stop → ⊥
     here k e p stop h = fails p stop (subst (λ (i : ℕ). PatternAt s i p stop) e h)
-
-pub measured_more : {s ends tables : List ℕ} {from at stop n : ℕ} → Measured s ends tables from → from ≤ at + 1 → ExtentOf s at stop n → at < length ends → at < length tables → Measured s (set ends at stop) (set tables at n) at
-measured_more {s = s} {ends = ends} {tables = tables} {from = from} {at = at} {stop = stop} {n = n} M near E l m = record {
-  stops = from_more (λ k v. (p : Pattern) (end : ℕ) → PatternAt s k p end → v ≡ end) ends stop l M.stops E.stops;
-  needs = from_more (λ k v. (p : Pattern) (end : ℕ) → PatternAt s k p end → v ≡ strahler p) tables n m M.needs E.needs;
-}
-  where
-    from_more : (P : ℕ → ℕ → Type 0) (t : List ℕ) (v : ℕ) → at < length t → ((k : ℕ) → from ≤ k → P k (get_or t k 0)) → P at v → (k : ℕ) → at ≤ k → P k (get_or (set t at v) k 0)
-    from_more P t v l behind here k h = ⊎_elim
-        (λ (e : k ≡ at). subst (λ (i : ℕ). P i (get_or (set t at v) i 0)) (sym e) (subst (P at) (sym (get_or-set_same t at v 0 l)) here))
-        (λ (d : k ≡ at → ⊥). subst (P k) (sym (get_or-set_other t at k v 0 d)) (behind k (omega arith)))
-        (cases_eq k at)

@@ -4,7 +4,7 @@
 
 mod printing;
 
-use patterns::direct::{Searched, matches, search};
+use patterns::direct::{matches, search};
 use printing::{divider, places};
 use std::alloc::{AllocError, Global};
 use std::fmt::{Display, Write};
@@ -70,9 +70,7 @@ fn print_places(rt: &HostRuntime, source: &str, list: &[u8], text: &[u8]) -> Res
     let notation = notation::read(heap, list).map_err(|error| Failure::of(heap, source, &error))?;
     let bytes = notation.bytes.as_slice();
     let mut ends = vec![in heap; 0u32; text.len()]?;
-    let Searched::Read = search(bytes, text, ends.as_mut_slice()) else {
-        return Err(Failure::NotSearched);
-    };
+    search(bytes, text, ends.as_mut_slice()).map_err(|_| Failure::NotSearched)?;
     for (index, name) in notation.names.iter().enumerate() {
         let mut line = String::from_utf8_lossy(heap, name.of(list))?;
         line.push(':')?;

@@ -1,4 +1,4 @@
-// The calls as C sees them: thin, with codes in the order of the enums, and results through a last pointer.
+// The calls as C sees them: thin, with 0 for success and a code for each error, and results through a last pointer.
 
 #![tactic(auto)]
 

@@ -14,7 +14,7 @@ mod refining;
 #[cfg(test)]
 mod searching;
 
-use patterns::direct::{Searched, search};
+use patterns::direct::search;
 use std::io;
 
 // ab; b's, one at least; bb.
@@ -36,7 +36,7 @@ fn print_word(rt: &HostRuntime, number: u8) -> io::Result<()> {
         letter(number / 8),
     ];
     let mut ends = [0u32; 4];
-    if let Searched::Read = search(THREE, &word, &mut ends) {
+    if search(THREE, &word, &mut ends).is_ok() {
         let [a, b, c, d] = ends;
         println!(rt; "{number:2}: {a} {b} {c} {d}")?;
     }

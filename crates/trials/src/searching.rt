@@ -1,5 +1,5 @@
 // Matching and searching by definition, on cases worked out by hand.
-use patterns::direct::{Searched, matches, search};
+use patterns::direct::{SearchError, matches, search};
 use std::test::Fail;
 
 // Words of a and b with an a, and without bb.
@@ -61,8 +61,7 @@ fn what_went_wrong_before(rt: HostRuntime) {
 #[test]
 fn three_patterns_end(rt: HostRuntime) -> Result<(), Fail> {
     let mut ends = [9u32; 5];
-    let said = matches!(search(THREE, b"babb", &mut ends), Searched::Read);
-    assert!(rt; said);
+    assert_eq!(rt; search(THREE, b"babb", &mut ends), Ok(()));
     assert_eq!(rt; ends[0], 2, "b");
     assert_eq!(rt; ends[1], 0, "ba");
     assert_eq!(rt; ends[2], 3, "bab");
@@ -74,11 +73,9 @@ fn three_patterns_end(rt: HostRuntime) -> Result<(), Fail> {
 #[test]
 fn refusals_write_nothing(rt: HostRuntime) -> Result<(), Fail> {
     let mut ends = [9u32; 1];
-    let full = matches!(search(THREE, b"ba", &mut ends), Searched::Full);
-    assert!(rt; full);
+    assert_eq!(rt; search(THREE, b"ba", &mut ends), Err(SearchError::Full));
     assert_eq!(rt; ends[0], 9);
-    let bad = matches!(search(b"\x08", b"b", &mut ends), Searched::NoList);
-    assert!(rt; bad);
+    assert_eq!(rt; search(b"\x08", b"b", &mut ends), Err(SearchError::NoList));
     assert_eq!(rt; ends[0], 9);
     Ok(())
 }

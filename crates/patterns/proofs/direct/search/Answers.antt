@@ -6,7 +6,7 @@ use Rattle.patterns.specs.declared.direct.SearchError.{SearchError}
 use Rattle.patterns.specs.declared.direct.SearchError.TheVariants.{NoList}
 use Rattle.patterns.specs.Promises.{ListRead, SearchedPost}
 use Rattle.patterns.proofs.Cutting.{meaning}
-use Rattle.patterns.proofs.Ending.{searching_none, searching_more, searching_all}
+use Rattle.patterns.proofs.Ending.{searching_more, searching_all}
 use Rattle.patterns.proofs.direct.search.Goals as goal
 
 -- no list, whatever the way to say so
@@ -27,14 +27,6 @@ pub returns-then-ends-text : goal.returns-then-ends-text
 returns-then-ends-text c =
     let l = (subst (ListRead c.args.list.now) c.in_ok-ok_or.ensures.ok_part c.read_list.ensures).says in
     record { says = ((l.0, l.1), c.if-ends-text.true, refl); meaning = meaning }
-
-pub bits_after-requires : goal.bits_after-requires
-bits_after-requires c =
-    let l = (subst (ListRead c.args.list.now) c.in_ok-ok_or.ensures.ok_part c.read_list.ensures).says in
-    record { patterns = l.0; here = l.1 }
-
-pub loop-i-init : goal.loop-i-init
-loop-i-init c = searching_none _ _ _
 
 pub loop-i-preserved : goal.loop-i-preserved
 loop-i-preserved c = searching_more _ (omega (arith, length-take (length c.args.text.now) c.args.ends.now)) (omega (arith, length-take (length c.args.text.now) c.args.ends.now)) c.bits_after.ensures c.loop-i.invariant

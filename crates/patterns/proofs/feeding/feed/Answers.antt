@@ -1,16 +1,10 @@
-use Rattle.std.proofs.Common.{arith, rules}
+use Rattle.std.proofs.Common.{rules}
 use Rattle.machines.proofs.Pieces.{pieces}
 use Rattle.patterns.proofs.FedPieces.{fed_moved, in_pieces}
 use Rattle.patterns.proofs.feeding.feed.Goals as goal
 
 pub returns-then-not-is_table : goal.returns-then-not-is_table
 returns-then-not-is_table c = record { says = search rules; pieces = pieces; fed = in_pieces }
-
-pub new-requires : goal.new-requires
-new-requires c = c.is_table.ensures.0 c.if-not-is_table.false
-
-pub feed_valid-requires : goal.feed_valid-requires
-feed_valid-requires c = omega (arith, c.new.ensures.0)
 
 pub returns : goal.returns
 returns c = record {

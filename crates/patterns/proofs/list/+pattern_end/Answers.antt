@@ -3,9 +3,6 @@ use Rattle.patterns.specs.Promises.{PatternRead}
 use Rattle.patterns.proofs.Extents.{node_to, node_later, pattern_later, arity_most, end_none, end_leaf, end_one, end_two, end_two_none}
 use Rattle.patterns.proofs.list.+pattern_end.Goals as goal
 
-pub overflow_add-next : goal.overflow_add-next
-overflow_add-next t c = let later = node_later (node_to c.width.result c.in_ok-node.ensures c.width.ensures) in omega arith
-
 pub returns-in-0 : goal.returns-in-0
 returns-in-0 t c = end_leaf (node_to c.width.result c.in_ok-node.ensures c.width.ensures) (sym c.arity.ensures ∙ c.in-0.is)
 

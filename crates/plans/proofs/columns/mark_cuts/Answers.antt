@@ -1,11 +1,8 @@
 use Rattle.std.proofs.Common.{◌≡◌, ℕ, ◌+◌, length, sym, ◌∙◌, subst, arith}
 use Rattle.plans.specs.Dividing.{Marked}
-use Rattle.plans.proofs.Dividing.{marked_none, marked_past, marked_more}
+use Rattle.plans.proofs.Dividing.{marked_past, marked_more}
 use Rattle.plans.proofs.columns.mark_cuts.Goals as goal
 use Rattle.plans.proofs.columns.mark_cuts.Goals.{in-Some, in_default}
-
-pub loop-at-init : goal.loop-at-init
-loop-at-init c = marked_none _ _
 
 pub loop-at-preserved : goal.loop-at-preserved
 loop-at-preserved c = elim c.match-read_node.branch [

@@ -4,9 +4,6 @@ use Rattle.plans.specs.Strahler.{ExtentAt}
 use Rattle.plans.proofs.Measuring.{extent_read, extent_written, extent_past, extent_leaf, extent_part, extent_first_none, extent_second_none, extent_two}
 use Rattle.plans.proofs.extents.extent_at.Goals as goal
 
-pub overflow_add-next : goal.overflow_add-next
-overflow_add-next c = let later = node_later (node_to c.width.result c.in_ok-node.ensures c.width.ensures) in omega arith
-
 pub returns-in_err-node : goal.returns-in_err-node
 returns-in_err-node c = subst (ExtentAt c.args.list.now c.args.at) (sym c.from_residual.ensures) (end_none c.in_err-node.ensures)
 

@@ -1,12 +1,9 @@
-use Rattle.std.proofs.Common.{refl, arith}
+use Rattle.std.proofs.Common.{arith}
 use Rattle.patterns.proofs.Ending.{walk_there, walk_more}
 use Rattle.patterns.proofs.list.PatternsIterator.next.Goals as goal
 
 pub pattern_behind-self-requires : goal.pattern_behind-self-requires
 pattern_behind-self-requires c = walk_there c.requires c.if-self.false
-
-pub returns-clause-steps : goal.returns-clause-steps
-returns-clause-steps c = record { list = refl; says = (c.if-self.false, refl, c.pattern_behind-self.ensures) }
 
 pub returns-clause-goes : goal.returns-clause-goes
 returns-clause-goes c =
