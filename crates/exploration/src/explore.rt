@@ -34,6 +34,7 @@ fn explore_row<S: System>(
 {
     let cells = &mut table[257 * row..257 * row + 257];
     cells[0] = sys.show(index.key(row));
+    // By number: a system steps by a column's number, and what it leads to is found in the index.
     for c in 0..columns {
         sys.step(index.key(row), c, scratch);
         let to = index.settle(scratch)?;

@@ -90,6 +90,7 @@ impl<'k, 'h, 'l> Index<'k, 'h, 'l> {
         ensures { Finds self.now.keys.now self.now.size self.now.count key.now result }
     {
         let mut next = self.heads[(hash(key) % BUCKETS as u64) as usize] as usize;
+        // No `for`: a chain in lent words ends where a link is 0.
         while next > 0 {
             if self.key(next - 1) == key {
                 return Some(Class(next - 1));

@@ -25,6 +25,7 @@ pub fn expand(raw: RawTable<'_>, column: &[u32], table: &mut [u32])
     requires table { 257 * raw.rows ≤ length table.old }
     ensures { Expanded (λ b. slice_index column.now b) raw.entry.rows raw.entry.words.now table.old table.new }
 {
+    // A rule of the project: rows are parts that start in a lent slice's middle, one read and one written.
     for i in 0..raw.rows() {
         let row = &mut table[257 * i..257 * i + 257];
         expand_row(raw.row(i), column, row);

@@ -15,6 +15,7 @@ pub fn shortlex(left: &[u8], right: &[u8]) -> Ordering
     if right.len() < left.len() {
         return Ordering::Greater;
     }
+    // A rule of the project: an order is a loop that yields by break.
     let mut i = 0;
     loop {
         if i == left.len() {

@@ -172,6 +172,7 @@ pub fn complement(rows: usize, tables: &mut [u32])
     requires { 257 * rows ≤ length tables.old }
     ensures { Complemented rows tables.old tables.new }
 {
+    // By number: nothing is known of what was written through `chunks_exact_mut`.
     for i in 0..rows {
         tables[257 * i] = turn(tables[257 * i]);
     }

@@ -22,6 +22,7 @@ fn mark_cuts(list: &[u8], cuts: &mut [u32])
     ensures { Marked list.now cuts.new (length list.now) }
 {
     cuts.fill(0);
+    // By place: a node is read from a place of the list on.
     for at in 0..list.len() {
         if let Some(node) = read_node(list, at) {
             mark(node, cuts);

@@ -77,6 +77,7 @@ pub fn measure(list: &[u8], ends: &mut [u32], tables: &mut [u32])
     requires tables { length list.now ≤ length tables.old }
     ensures { Measured list.now ends.new tables.new 0 }
 {
+    // By place, from the last: an extent is worked out from those of the places behind it.
     for at in (0..list.len()).rev() {
         if let Some(here) = extent_at(list, Extents { ends, tables }, at) {
             ends[at] = here.end;

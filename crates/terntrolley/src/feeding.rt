@@ -43,7 +43,7 @@ pub extern "C" fn terntrolley_feed(
 pub extern "C" fn terntrolley_validate(table: &[u32], rows: usize) -> u32
     ensures { Validated rows table.now result }
 {
-    if is_table(table, rows) { 0 } else { 1 }
+    u32::from(!is_table(table, rows))
 }
 
 // Feeds a table that was looked at, from one of its rows: 0 read, 2 full.

@@ -48,7 +48,7 @@ impl System for Window {
     }
 
     fn show(&self, key: &[u32]) -> u32 {
-        if self.size <= 2 * key[0] { 1 } else { 0 }
+        u32::from(self.size <= 2 * key[0])
     }
 }
 
