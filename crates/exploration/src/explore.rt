@@ -1,5 +1,5 @@
 // Breadth-first over the keys of a system: a table with a row for each key that is reached, in the order of the first words.
-ghost use Rattle.std.specs.Prelude.{◌≡◌, ℕ, ◌+◌, ◌-◌, ◌*◌, ◌^◌, ◌<◌, ◌≤◌, length, take, drop, MatchOption};
+ghost use Rattle.std.specs.Prelude.{◌≡◌, ℕ, ◌+◌, ◌-◌, ◌*◌, ◌^◌, ◌<◌, ◌≤◌, length, take, drop};
 ghost use Rattle.machines.specs.Columns.{Columns};
 ghost use Rattle.exploration.specs.Standing.{Stands, Same};
 ghost use Rattle.exploration.specs.Exploring.{IsLawful, ReadTo, RowSays, Says};
