@@ -6,14 +6,16 @@
 --   On                   the same of keys and a table in memory, for some words, where the rows below done show what their keys show
 --   TooMany              more words than there is room for, and no two lead to one key
 --   Complete             all keys are found, and the table of their k rows is written
---   RowDone              a row is read, and the keys that are found are those of an index
+--   IsLawful             what a system's first key and its steps are promised to be
+--   ReadTo               all rows before this one are read, of an index's keys and a table
 --   RowSays, Says        what is promised of a row, and of an exploration
 use Rattle.std.specs.Prelude.{◌≡◌, ℕ, ◌+◌, ◌*◌, ◌<◌, ◌≤◌, List, [], Some, None, Option, slice_index_or}
 use Rattle.machines.specs.Words.{Word}
 use Rattle.machines.specs.Columns.{cell, shown, leads}
 use Rattle.machines.specs.Inside.{Inside}
 use Rattle.machines.specs.Minimal.{code}
-use Rattle.machines.specs.Systems.{Key, reach, Pairwise, Explored}
+use Rattle.machines.specs.Systems.{Key, reach, Lawful, Pairwise, Explored}
+use Rattle.exploration.specs.declared.system.System.{Ghosts}
 use Rattle.exploration.specs.Keys.{key_at}
 use Rattle.exploration.specs.declared.index.Index.{Index}
 
@@ -49,13 +51,15 @@ pub record Complete (next : Key → ℕ → Key) (s : Key) (shows : Key → ℕ)
   pub explored : Explored next s k (key_at ks n) (leads column t)
   pub shows_keys : (i : ℕ) → i < k → shown t i ≡ shows (key_at ks n i)
 
-pub record RowDone (next : Key → ℕ → Key) (s : Key) (shows : Key → ℕ) (least : ℕ → ℕ) (count row : ℕ) (x : Index) (t : List ℕ) : Type 0 where
-  pub there : row < x.count
-  pub on : On next s shows least count x.size x.count (row + 1) 0 (row + 1) x.keys.now t
+abbrev pub IsLawful : {T : Type 0} → Ghosts T → T → Type 0
+IsLawful S s = Lawful (S.begin s) (S.next s) (S.good s) (S.width s) (S.column s) (S.least s)
 
-abbrev pub RowSays : (Key → ℕ → Key) → Key → (Key → ℕ) → (ℕ → ℕ) → ℕ → ℕ → Index → List ℕ → Option (Unit {0}) → Type 0
-RowSays next s shows least count row x t None = TooMany next s x.most
-RowSays next s shows least count row x t (Some _) = RowDone next s shows least count row x t
+abbrev pub ReadTo : {T : Type 0} → Ghosts T → T → ℕ → Index → ℕ → List ℕ → Type 0
+ReadTo S s count x row t = On (S.next s) (S.begin s) (S.shows s) (S.least s) count x.size x.count row 0 row x.keys.now t
+
+abbrev pub RowSays : {T : Type 0} → Ghosts T → T → ℕ → ℕ → Index → List ℕ → Option (Unit {0}) → Type 0
+RowSays S s count row x t None = TooMany (S.next s) (S.begin s) x.most
+RowSays S s count row x t (Some _) = (row < x.count) × ReadTo S s count x (row + 1) t
 
 abbrev pub Says : (Key → ℕ → Key) → Key → (Key → ℕ) → (ℕ → ℕ) → ℕ → ℕ → ℕ → List ℕ → List ℕ → Option ℕ → Type 0
 Says next s shows column count n most ks t None = TooMany next s most

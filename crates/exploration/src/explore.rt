@@ -1,9 +1,8 @@
 // Breadth-first over the keys of a system: a table with a row for each key that is reached, in the order of the first words.
-ghost use Rattle.std.specs.Prelude.{◌≡◌, ℕ, ◌+◌, ◌-◌, ◌*◌, ◌^◌, ◌<◌, ◌≤◌, length, take, drop, MatchOption};
+ghost use Rattle.std.specs.Prelude.{◌≡◌, ℕ, ◌+◌, ◌-◌, ◌*◌, ◌^◌, ◌<◌, ◌≤◌, length, take, drop};
 ghost use Rattle.machines.specs.Columns.{Columns};
-ghost use Rattle.machines.specs.Systems.{Lawful};
 ghost use Rattle.exploration.specs.Standing.{Stands, Same};
-ghost use Rattle.exploration.specs.Exploring.{On, RowSays, Says};
+ghost use Rattle.exploration.specs.Exploring.{IsLawful, ReadTo, RowSays, Says};
 
 use crate::index::{BUCKETS, Index};
 use crate::system::System;
@@ -18,7 +17,7 @@ fn explore_row<S: System>(
     table: &mut [u32],
 ) -> Option<()>
     requires ready { S.System.ready sys.now }
-    requires lawful { Lawful (S.System.begin sys.now) (S.System.next sys.now) (S.System.good sys.now) index.old.size (S.System.column sys.now) (S.System.least sys.now) }
+    requires lawful { IsLawful S.System sys.now }
     requires columns { Columns columns (S.System.column sys.now) (S.System.least sys.now) }
     requires count { columns ≡ S.System.count sys.now }
     requires width { index.old.size ≡ S.System.width sys.now }
@@ -26,8 +25,8 @@ fn explore_row<S: System>(
     requires row { row < index.old.count }
     requires scratch { length scratch.old ≡ index.old.size }
     requires table { 257 * index.old.most ≤ length table.old }
-    requires on { On (S.System.next sys.now) (S.System.begin sys.now) (S.System.shows sys.now) (S.System.least sys.now) columns index.old.size index.old.count row 0 row index.old.keys.now table.old }
-    ensures says { RowSays (S.System.next sys.now) (S.System.begin sys.now) (S.System.shows sys.now) (S.System.least sys.now) columns row index.new table.new result }
+    requires on { ReadTo S.System sys.now columns index.old row table.old }
+    ensures says { RowSays S.System sys.now columns row index.new table.new result }
     ensures stands { Stands index.new }
     ensures same { Same index.old index.new }
     ensures rest { drop (257 * index.old.most) table.new ≡ drop (257 * index.old.most) table.old }
@@ -51,7 +50,7 @@ fn explore_all<S: System>(
     table: &mut [u32],
 ) -> Option<usize>
     requires ready { S.System.ready sys.now }
-    requires lawful { Lawful (S.System.begin sys.now) (S.System.next sys.now) (S.System.good sys.now) index.old.size (S.System.column sys.now) (S.System.least sys.now) }
+    requires lawful { IsLawful S.System sys.now }
     requires width { index.old.size ≡ S.System.width sys.now }
     requires stands { Stands index.old }
     requires none { index.old.count ≡ 0 }

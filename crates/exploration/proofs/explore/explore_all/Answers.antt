@@ -32,8 +32,8 @@ loop-row-preserved g c =
     record {
       stands = done.stands;
       same = same_on inv.same done.same;
-      reached = omega (arith, done.says.there);
-      on = done.says.on;
+      reached = omega (arith, done.says.0);
+      on = done.says.1;
       rest = subst (λ m. drop (257 * m) c.explore_row.new.table ≡ drop (257 * m) c.loop-row.table) inv.same.most done.rest ∙ inv.rest;
     }
 

@@ -1,6 +1,6 @@
 use Rattle.std.proofs.Common.{◌≡◌, ◌-◌, ◌*◌, ◌≤◌, drop}
 use Rattle.exploration.specs.Standing.{Stands, Same}
-use Rattle.exploration.specs.Exploring.{On}
+use Rattle.exploration.specs.Exploring.{ReadTo}
 use Rattle.exploration.proofs.explore.explore_all.Given as goal
 
 abbrev pub invariant-loop-row : goal.invariant-loop-row
@@ -8,7 +8,7 @@ invariant-loop-row g l = record {
   stands : Stands l.index;
   same : Same l.fn.index l.index;
   reached : l.row ≤ l.index.count;
-  on : On (g.S.System.next l.sys) (g.S.System.begin l.sys) (g.S.System.shows l.sys) (g.S.System.least l.sys) l.columns l.index.size l.index.count l.row 0 l.row l.index.keys.now l.table;
+  on : ReadTo g.S.System l.sys l.columns l.index l.row l.table;
   rest : drop (257 * l.fn.index.most) l.table ≡ drop (257 * l.fn.index.most) l.fn.table;
 }
 

@@ -62,7 +62,7 @@ pub returns : goal.returns
 returns g c =
     let inv = c.loop-c.invariant in
     record {
-      says = record { there = inv.in_row; on = on_next c.requires.columns inv.on (omega arith) inv.in_row };
+      says = (inv.in_row, on_next c.requires.columns inv.on (omega arith) inv.in_row);
       stands = inv.stands;
       same = inv.same;
       rest = row_behind c.args.row c.args.index.now.most c.args.table.now c.loop-c.cells (omega (arith, c.requires.stands.few)) inv.long (omega (arith, c.requires.stands.few));
