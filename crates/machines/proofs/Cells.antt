@@ -1,10 +1,13 @@
 -- What stands in a list, as an option and with a default, and a sound table said in either way. Assumes nothing.
-use Rattle.std.proofs.Common.{◌≡◌, ℕ, zero, suc, ◌+◌, ◌-◌, ◌*◌, ◌<◌, ◌≤◌, List, [], ◌∷◌, length, get_or, take, drop, sym, refl, ap, ◌∙◌, subst, arith, All}
+use Rattle.std.proofs.Common.{◌≡◌, ℕ, zero, suc, ◌+◌, ◌-◌, ◌*◌, ◌<◌, ◌≤◌, List, [], ◌∷◌, length, get_or, take, drop, sym, refl, ap, ◌∙◌, subst, arith, All, IsTrue, MatchBool, Bool, true, false, ◌↔◌}
 use mathlib.Core.Option.{some}
 use Rattle.std.proofs.lemmas.List.{places, length-take, length-drop, get_or-take, get_or-drop}
 use Rattle.machines.specs.Classes.{nth}
 use Rattle.machines.specs.Tables.{SoundTable, LeadsInside, or0}
+use Rattle.std.specs.List.{range_with_len, HoldsAt, AllWithin}
+use Rattle.std.proofs.lemmas.Bool.{both_ways}
 use Rattle.std.proofs.lemmas.List.Elements.{All-get_or, All-from_get_or}
+use Rattle.std.proofs.lemmas.List.FromFn.{length-range_with_len, get_or-range_with_len}
 use Rattle.machines.specs.Columns.{cell}
 use Rattle.machines.proofs.Places.{nth_read}
 
@@ -51,3 +54,30 @@ all_cells t i c k h few each =
   where
     long : length (take ((257 * i + 1 + c) - (257 * i + 1)) (drop (257 * i + 1) t)) ≡ c
     long = simp (length-take, length-drop) (omega arith)
+
+-- the first cells of row i, as a part of the table
+abbrev pub first_cells : List ℕ → ℕ → ℕ → List ℕ
+first_cells t c i = take ((257 * i + 1 + c) - (257 * i + 1)) (drop (257 * i + 1) t)
+
+-- what a look at the rows below k says
+pub rows_all : (t : List ℕ) (c k : ℕ) (r : Bool) → 257 * k ≤ length t → c ≤ 256
+    → MatchBool r (AllWithin (λ i. All (λ to. to < k) (first_cells t c i)) (range_with_len 0 k) 0 (length (range_with_len 0 k)))
+    ((i : ℕ) × (i < length (range_with_len 0 k)) × HoldsAt (λ i. All (λ to. to < k) (first_cells t c i) → ⊥) (range_with_len 0 k) i)
+    → IsTrue r ↔ ((i : ℕ) → i < k → (j : ℕ) → j < c → cell t i j < k)
+rows_all t c k true room few all = (
+  λ e i l. cells_all t i c k (omega arith) few (subst (λ x. All (λ to. to < k) (first_cells t c x)) (at i l) (all i 0 (omega arith) (omega (arith, length-range_with_len 0 k)))),
+  λ each. refl,
+)
+  where
+    at : (i : ℕ) → i < k → get_or (range_with_len 0 k) i 0 ≡ i
+    at i l = get_or-range_with_len 0 k i 0 l ∙ omega arith
+rows_all t c k false room few (i, l, other) = (
+  λ e. absurd (both_ways false refl e),
+  λ each. absurd (other 0 (subst (λ x. All (λ to. to < k) (first_cells t c x)) (sym at) (all_cells t i c k (omega (arith, low)) few (each i low)))),
+)
+  where
+    low : i < k
+    low = omega (arith, length-range_with_len 0 k)
+
+    at : get_or (range_with_len 0 k) i 0 ≡ i
+    at = get_or-range_with_len 0 k i 0 low ∙ omega arith

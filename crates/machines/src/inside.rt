@@ -16,13 +16,7 @@ pub(crate) fn rows_lead_inside(table: &[u32], columns: usize, rows: usize) -> bo
     requires rows { 257 * rows ≤ length table.now }
     ensures { IsTrue result ↔ ((i : ℕ) → i < rows → (j : ℕ) → j < columns → cell table.now i j < rows) }
 {
-    for i in 0..rows {
-        let cells = &table[257 * i + 1..257 * i + 1 + columns];
-        if !leads_inside(cells, rows) {
-            return false;
-        }
-    }
-    true
+    (0..rows).all(|i| leads_inside(&table[257 * i + 1..257 * i + 1 + columns], rows))
 }
 
 // Whether a table has so many rows, one at least, each of which leads to one of them from each column.

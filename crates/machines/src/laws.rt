@@ -1,4 +1,5 @@
-// What holds of every table and every system of keys, as contracts: a crate that calls one of these has the law.
+// What holds of every table and every system of keys, as contracts: a crate that calls one of these has the law. A function for
+// each, as each is a theorem of its own.
 ghost use Rattle.machines.specs.Dead.{DeadRows};
 ghost use Rattle.machines.specs.Laws.{Exact, OneTable, LeastTable, HasTable, MinimalTable, Crowded, KeyClasses};
 

@@ -1,5 +1,5 @@
 // Tables that stand one behind the other in lent words.
-ghost use Rattle.std.specs.Prelude.{◌≡◌, drop};
+ghost use Rattle.std.specs.Prelude.{◌≡◌};
 ghost use Rattle.parts.specs.Combining.{PartInside, part_words};
 
 use machines::raw::RawTable;
@@ -11,11 +11,13 @@ pub struct Part {
     pub rows: usize,
 }
 
-// The part's table.
-pub fn table_of(part: Part, columns: usize, tables: &[u32]) -> RawTable<'_>
-    requires { PartInside columns part tables.now }
-    ensures { (result.words.now ≡ part_words part tables.now) × (result.columns ≡ columns) × (result.rows ≡ part.rows) }
-{
-    let at = part.at;
-    RawTable::new(&tables[at..], columns, part.rows)
+impl Part {
+    // The table, where it stands in the words.
+    pub fn table(self, columns: usize, tables: &[u32]) -> RawTable<'_>
+        requires { PartInside columns self tables.now }
+        ensures { (result.words.now ≡ part_words self tables.now) × (result.columns ≡ columns) × (result.rows ≡ self.rows) }
+    {
+        let at = self.at;
+        RawTable::new(&tables[at..], columns, self.rows)
+    }
 }

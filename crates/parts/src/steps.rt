@@ -10,7 +10,7 @@ ghost use Rattle.parts.specs.Steps.{raw_area, block_area, Distinguishes, FollowS
 use crate::distinguish::{distinguish, join_blocks};
 use crate::leaf::Leaf;
 use crate::leaf_states::LeafStates;
-use crate::part::{Part, table_of};
+use crate::part::Part;
 use exploration::pairs::{Connective, Pair};
 use machines::columns::ByteColumns;
 use refinement::dead_row::dead_row;
@@ -52,8 +52,8 @@ fn pair<'x>(
 {
     let pair = Pair {
         join,
-        left: table_of(first, columns.count, tables),
-        right: table_of(second, columns.count, tables),
+        left: first.table(columns.count, tables),
+        right: second.table(columns.count, tables),
         columns,
     };
     distinguish(&pair, most, work)
@@ -93,9 +93,9 @@ fn follow<'x>(
     requires few { second.rows ≤ most }
     ensures { FollowSays (λ b. slice_index columns.entry.column.now b) columns.entry.count (part_words first tables.now) (part_words second tables.now) second.rows most work.new result }
 {
-    let back = table_of(second, columns.count, tables);
+    let back = second.table(columns.count, tables);
     let follow = Follow {
-        front: table_of(first, columns.count, tables),
+        front: first.table(columns.count, tables),
         back,
         dead: dead_row(back),
         columns,
@@ -135,7 +135,7 @@ fn repeat<'x>(
     requires few { part.rows ≤ most }
     ensures { RepeatSays (λ b. slice_index columns.entry.column.now b) columns.entry.count (part_words part tables.now) part.rows most work.new result }
 {
-    let table = table_of(part, columns.count, tables);
+    let table = part.table(columns.count, tables);
     let repeat = Repeat {
         table,
         dead: dead_row(table),

@@ -1,13 +1,13 @@
-use Rattle.std.proofs.Common.{arith, below_more, rules}
-use Rattle.machines.proofs.Cells.{cells_all, all_cells}
+use Rattle.std.proofs.Common.{rules, ℕ, ◌<◌, All, refl, arith}
+use borrow.Author.Tests.{tests}
+use Rattle.std.proofs.lemmas.Iterator.{cases_from_all, YieldsList-from_range}
+use Rattle.machines.proofs.Cells.{first_cells, rows_all}
 use Rattle.machines.proofs.inside.rows_lead_inside.Goals as goal
 
-pub returns-then-not-leads_inside : goal.returns-then-not-leads_inside
-returns-then-not-leads_inside c = (
-  λ e. absurd (search rules),
-  λ each. let all = all_cells c.args.table.now c.loop-i.i c.args.columns c.args.rows (omega arith) (omega arith) (each c.loop-i.i (omega arith)) in absurd (search rules),
-)
-
-pub loop-i-preserved : goal.loop-i-preserved
-loop-i-preserved c = below_more _ _ c.loop-i.invariant
-    (cells_all c.args.table.now c.loop-i.i c.args.columns c.args.rows (omega arith) (omega arith) (c.leads_inside.ensures.0 c.if-not-leads_inside.false))
+pub returns : goal.returns
+returns c =
+    let k = c.args.rows in
+    let cells = first_cells c.args.table.now c.args.columns in
+    rows_all c.args.table.now c.args.columns k c.all.result (omega arith) (omega arith)
+    (cases_from_all c.all.new.self _ _ (λ (i : ℕ). All (λ to. to < k) (cells i)) (λ i. All (λ to. to < k) (cells i) → ⊥)
+    c.all.ensures.ran (YieldsList-from_range 0 k k refl (omega arith)) (λ x q h. search (rules, tests)) (λ x q h. search (rules, tests)))

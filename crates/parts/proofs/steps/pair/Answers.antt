@@ -11,6 +11,6 @@ returns c =
     let n = c.args.most in
     let w = c.distinguish.new.work in
     let r = part_words c.args.second c.args.tables.now in
-    of_table (λ l _ _. Distinguishes (pair_next column l r) (0 ∷ 0 ∷ []) (pair_shows (joined c.args.join) l r) column c.args.columns.count n (raw_area n w) (block_area n w) c.distinguish.result) c.table_of.ensures
-    (of_table (λ r _ _. Distinguishes (pair_next column c.table_of.result.words.now r) (0 ∷ 0 ∷ []) (pair_shows (joined c.args.join) c.table_of.result.words.now r) column c.args.columns.count n (raw_area n w) (block_area n w) c.distinguish.result)
-    c.table_of-2.ensures c.distinguish.ensures)
+    of_table (λ l _ _. Distinguishes (pair_next column l r) (0 ∷ 0 ∷ []) (pair_shows (joined c.args.join) l r) column c.args.columns.count n (raw_area n w) (block_area n w) c.distinguish.result) c.table.ensures
+    (of_table (λ r _ _. Distinguishes (pair_next column c.table.result.words.now r) (0 ∷ 0 ∷ []) (pair_shows (joined c.args.join) c.table.result.words.now r) column c.args.columns.count n (raw_area n w) (block_area n w) c.distinguish.result)
+    c.table-2.ensures c.distinguish.ensures)

@@ -11,4 +11,4 @@ returns c =
     let n = c.args.most in
     let w = c.distinguish.new.work in
     of_table (λ t a k. (d : Option ℕ) × DeadRow a k t d × Distinguishes (λ x b. again t d (k / 32 + 1) k x (column b)) (whole d (k / 32 + 1)) (λ x. get_or x 0 0) column c.args.columns.count n (raw_area n w) (block_area n w) c.distinguish.result)
-    c.table_of-table.ensures (c.dead_row.result, c.dead_row.ensures, c.distinguish.ensures)
+    c.table-table.ensures (c.dead_row.result, c.dead_row.ensures, c.distinguish.ensures)
