@@ -2,7 +2,7 @@
 --   Stands s          its parts are long enough for as many keys as there is room for, and the keys are in their buckets
 --   Same s s'         keys of as many words, room for as many, in the same lent words
 --   Counts k k' r     how many keys there are when one has settled: one more if it has the class behind the others
-use Rattle.std.specs.Prelude.{◌≡◌, ℕ, ◌+◌, ◌-◌, ◌*◌, ◌^◌, ◌<◌, ◌≤◌, length, Some, None, Option}
+use Rattle.std.specs.Prelude.{◌≡◌, ℕ, ◌+◌, ◌*◌, ◌<◌, ◌≤◌, length, Some, None, Option}
 use Rattle.exploration.specs.declared.index.Class.{Class}
 use Rattle.exploration.specs.declared.index.Index.{Index}
 use Rattle.exploration.specs.Keys.{key_at}
@@ -10,7 +10,6 @@ use Rattle.exploration.specs.Hashed.{Indexed}
 
 pub record Stands (s : Index) : Type 0 where
   pub few : s.count ≤ s.most
-  pub most : s.most < 2 ^ 32 - 1
   pub keys : s.most * s.size ≤ length s.keys.now
   pub heads : length s.heads.now ≡ 4096
   pub links : s.most ≤ length s.links.now

@@ -22,6 +22,7 @@ fn explore_row<S: System>(
     requires count { columns ≡ S.System.count sys.now }
     requires width { index.old.size ≡ S.System.width sys.now }
     requires stands { Stands index.old }
+    requires most { index.old.most < 2 ^ 32 - 1 }
     requires row { row < index.old.count }
     requires scratch { length scratch.old ≡ index.old.size }
     requires table { 257 * index.old.most ≤ length table.old }
@@ -53,6 +54,7 @@ fn explore_all<S: System>(
     requires lawful { IsLawful S.System sys.now }
     requires width { index.old.size ≡ S.System.width sys.now }
     requires stands { Stands index.old }
+    requires most { index.old.most < 2 ^ 32 - 1 }
     requires none { index.old.count ≡ 0 }
     requires scratch { length scratch.old ≡ index.old.size }
     requires table { 257 * index.old.most ≤ length table.old }

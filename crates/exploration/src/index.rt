@@ -29,12 +29,12 @@ fn hash(key: &[u32]) -> u64
 // stand beside a `&mut`; and the lifetimes are three, as one for all would lose what is left behind each.
 #[derive(Drop)]
 pub struct Index<'k, 'h, 'l> {
-    keys: &'k mut [u32],
-    size: usize,
-    most: usize,
-    heads: &'h mut [u32],
-    links: &'l mut [u32],
-    count: usize,
+    pub keys: &'k mut [u32],
+    pub size: usize,
+    pub most: usize,
+    pub heads: &'h mut [u32],
+    pub links: &'l mut [u32],
+    pub count: usize,
 }
 
 impl<'k, 'h, 'l> Index<'k, 'h, 'l> {
@@ -46,7 +46,6 @@ impl<'k, 'h, 'l> Index<'k, 'h, 'l> {
         heads: &'h mut [u32],
         links: &'l mut [u32],
     ) -> Index<'k, 'h, 'l>
-        requires most { most < 2 ^ 32 - 1 }
         requires keys { most * size ≤ length keys.old }
         requires heads { length heads.old ≡ 4096 }
         requires links { most ≤ length links.old }
@@ -104,6 +103,7 @@ impl<'k, 'h, 'l> Index<'k, 'h, 'l> {
     #[inline]
     pub fn settle(&mut self, key: &[u32]) -> Option<Class>
         requires stands { Stands self.old }
+        requires most { self.old.most < 2 ^ 32 - 1 }
         requires long { length key.now ≡ self.old.size }
         ensures settled { Settled self.old.keys.now self.new.keys.now self.old.size self.old.count self.old.most key.now result }
         ensures counts { Counts self.old.count self.new.count result }

@@ -14,7 +14,6 @@ returns c =
       counts = ((λ h. absurd (omega arith)), λ _. refl);
       stands = record {
         few = omega (arith, S.few);
-        most = S.most;
         keys = omega (arith, S.keys, c.put.auto.keys);
         heads = length-set s.heads.now (c.hash.result % 4096) _ ∙ S.heads;
         links = omega (arith, S.links, length-set {A = ℕ});
