@@ -1,5 +1,5 @@
 // Keys in lent words, and an index of buckets, each a chain of keys from the last one back.
-// In `heads` and `links` a key's number is one more than its class, and 0 ends a chain.
+// In `heads` and `links` a key's number is one more than its class, and 0 ends a chain: lent words hold no Option.
 ghost use Rattle.std.specs.Prelude.{◌≡◌, ℕ, ◌+◌, ◌-◌, ◌*◌, ◌^◌, ◌<◌, ◌≤◌, length};
 ghost use Rattle.exploration.specs.Keys.{key_at, Finds, Settled};
 ghost use Rattle.exploration.specs.Hashed.{hashed};

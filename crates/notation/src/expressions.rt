@@ -138,7 +138,8 @@ impl Reader<'_> {
         }
     }
 
-    // The repetitions of the pattern that stands from a place of the list on.
+    // The repetitions of the pattern that stands from a place of the list on. That the place is in the list is a clause: the list
+    // is lent, and grows.
     fn repetitions(&mut self, list: &mut Vec<u8>, start: usize) -> Result<(), Fault>
         requires { start ≤ vec_len list.old }
         ensures on { OnOk result (On self.old self.new) }

@@ -1,4 +1,5 @@
 // The step of the work at each kind of part. The table that comes of it stands at the front of `tables`, where a part's may have stood.
+// What is lent and where parts stand in it is said by clauses: no ghost field stands beside a `&mut`.
 ghost use Rattle.std.specs.Prelude.{◌≡◌, ℕ, ◌+◌, ◌*◌, ◌/◌, ◌≤◌, List, [], ◌∷◌, length, take, drop, if◌then◌else◌, nat_eq, slice_index};
 ghost use Rattle.patterns.specs.Patterns.{seq, star};
 ghost use Rattle.exploration.specs.Pairs.{pair_next, pair_shows, joined};

@@ -26,7 +26,8 @@ pub fn pattern_end(list: &[u8], at: usize) -> Option<usize>
     }
 }
 
-// Where the pattern ends that is known to begin at a place.
+// Where the pattern ends that is known to begin at a place. That one begins there is a clause, here and in matching, and no ghost
+// field: proofs take the pattern out of it, which a field doesn't let them.
 pub fn pattern_behind(list: &[u8], at: usize) -> usize
     requires { SomePattern list.now at }
     ensures { (p : Pattern) (stop : ℕ) → PatternAt list.now at p stop → result ≡ stop }

@@ -51,7 +51,8 @@ fn number_bytes(cuts: &[u32], column: &mut [u32], least: &mut [u32]) -> usize
     j
 }
 
-// The column of each byte and the least byte of each column, and how many columns there are.
+// The column of each byte and the least byte of each column, and how many columns there are. Slices of a fixed length, and no
+// arrays: each is an area of one lent slice.
 pub fn number_columns(list: &[u8], cuts: &mut [u32], column: &mut [u32], least: &mut [u32]) -> usize
     requires cuts { length cuts.old ≡ 257 }
     requires column { length column.old ≡ 256 }

@@ -70,7 +70,8 @@ fn extent_at(list: &[u8], extents: Extents<'_>, at: usize) -> Option<Extent>
     }
 }
 
-// Writes for each place of a list at which a pattern stands where it ends and how many tables it needs.
+// Writes for each place of a list at which a pattern stands where it ends and how many tables it needs. Two slices, and none of
+// `Extent`: both are areas of lent words.
 pub fn measure(list: &[u8], ends: &mut [u32], tables: &mut [u32])
     requires short { length list.now ≤ 4096 }
     requires ends { length list.now ≤ length ends.old }

@@ -7,7 +7,8 @@ use exploration::system::System;
 use machines::columns::ByteColumns;
 use machines::raw::RawTable;
 
-// A key is whether the whole is accepted, and the set of the table's rows but its dead one.
+// A key is whether the whole is accepted, and the set of the table's rows but its dead one. It is no case of `Follow`: what comes
+// first in a key is another thing there, and so is what puts row 0 in.
 #[derive(Drop)]
 pub struct Repeat<'a> {
     pub table: RawTable<'a>,

@@ -7,7 +7,7 @@ use machines::table::{Row, Table, is_table};
 use patterns::feeding::feed_valid;
 use patterns::{FeedError, feed};
 
-// The code of an answer; the row, if there is one, goes to `next`.
+// The code of an answer; the row, if there is one, goes to `next`. The numbers are the C interface's.
 fn hand_out(fed: Result<Row, FeedError>, next: &mut usize) -> u32
     ensures code { result ≡ fed_code fed }
     ensures next { next.new ≡ fed_next next.old fed }

@@ -39,7 +39,7 @@ fn measure(rt: &HostRuntime, size: u32, timed: bool) -> io::Result<()> {
     let mut blocks = 0;
     let begun = Instant::now(rt)?;
     for _turn in 0..turns {
-        blocks = refined(heap, rows, table.as_slice())?;
+        blocks = refined(heap, rows, table.as_slice())?.unwrap_or(0);
     }
     let refining = begun.elapsed(rt)?.as_micros();
     if timed {
@@ -61,13 +61,13 @@ fn explored(heap: Global, size: u32, table: &mut [u32]) -> Result<Option<usize>,
     Ok(explore(&Window { size }, most, table, work.as_mut_slice()))
 }
 
-// Into how many blocks the rows fall; 0 for what is no table.
-fn refined(heap: Global, rows: usize, table: &[u32]) -> Result<usize, AllocError> {
+// Into how many blocks the rows fall, if they are a table's.
+fn refined(heap: Global, rows: usize, table: &[u32]) -> Result<Option<usize>, AllocError> {
     let Some(table) = RawTable::checked(table, COLUMNS, rows) else {
-        return Ok(0);
+        return Ok(None);
     };
     if rows > 65536 {
-        return Ok(0);
+        return Ok(None);
     }
     let mut block = vec![in heap; 0u32; rows]?;
     let mut fresh = vec![in heap; 0u32; rows]?;
@@ -76,5 +76,5 @@ fn refined(heap: Global, rows: usize, table: &[u32]) -> Result<usize, AllocError
         .iter()
         .enumerate()
         .filter(|(i, least)| **least as usize == *i);
-    Ok(firsts.count())
+    Ok(Some(firsts.count()))
 }
