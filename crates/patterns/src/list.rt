@@ -27,7 +27,7 @@ pub fn pattern_end(list: &[u8], at: usize) -> Option<usize>
 }
 
 // Where the pattern ends that is known to begin at a place. That one begins there is a clause, here and in matching, and no ghost
-// field: proofs take the pattern out of it, which a field doesn't let them.
+// field: proofs take the pattern out of it, and a field would first want a proof that there is but one.
 pub fn pattern_behind(list: &[u8], at: usize) -> usize
     requires { SomePattern list.now at }
     ensures { (p : Pattern) (stop : ℕ) → PatternAt list.now at p stop → result ≡ stop }
