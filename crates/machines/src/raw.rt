@@ -5,7 +5,8 @@ ghost use Rattle.machines.specs.Inside.{Inside};
 
 use crate::inside::is_inside;
 
-// So many rows, one at least, each of which leads to one of them from each column.
+// So many rows, one at least, each of which leads to one of them from each column. No case of `Table`: that has a cell for each byte,
+// all its words are rows, and it may have none.
 #[derive(Clone, Copy)]
 pub struct RawTable<'a> {
     words: &'a [u32],
@@ -52,7 +53,7 @@ impl<'a> RawTable<'a> {
         self.rows
     }
 
-    // What a row shows.
+    // What a row shows. Here and below that the row is there is a clause: a number knows nothing of its table.
     pub fn shown(self, row: usize) -> u32
         requires { row < self.rows }
         ensures { result ≡ shown self.entry.words.now row }

@@ -1,5 +1,5 @@
 // A pattern worked out from its parts, in prefix order. Finished tables stand one behind the other on a stack, each with room for
-// `most` rows; a pattern's own is left at the stack's front.
+// `most` rows; a pattern's own is left at the stack's front. What is lent is said by clauses, as in the steps of parts.
 ghost use Rattle.std.specs.Prelude.{ℕ, ◌*◌, ◌≤◌, length, slice_index};
 ghost use Rattle.parts.specs.Rooms.{Rooms};
 ghost use Rattle.parts.specs.Combining.{PartInside, Combines};
@@ -8,7 +8,7 @@ ghost use Rattle.making.specs.Working.{over, Workable, WorkableTwo, WorkedSays, 
 use crate::binary::Binary;
 use crate::order::Order;
 use crate::plan::Plan;
-use exploration::pairs::Connective;
+use exploration::pairs::Connective::{And, Or};
 use machines::columns::ByteColumns;
 use parts::leaf::Leaf;
 use parts::part::Part;
@@ -98,25 +98,7 @@ pub fn work_out(
             repetition(Part { at: 0, rows }, plan.columns, most, stack, work)
         }
         Node::Sequence => two_parts(plan, Binary::Followed, next, most, stack, work),
-        Node::Union => {
-            two_parts(
-                plan,
-                Binary::Connected(Connective::Or),
-                next,
-                most,
-                stack,
-                work,
-            )
-        }
-        Node::Intersection => {
-            two_parts(
-                plan,
-                Binary::Connected(Connective::And),
-                next,
-                most,
-                stack,
-                work,
-            )
-        }
+        Node::Union => two_parts(plan, Binary::Connected(Or), next, most, stack, work),
+        Node::Intersection => two_parts(plan, Binary::Connected(And), next, most, stack, work),
     }
 }

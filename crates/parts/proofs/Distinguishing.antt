@@ -3,7 +3,8 @@ use Rattle.std.proofs.Common.{◌≡◌, ℕ, ◌*◌, ◌<◌, ◌≤◌, List,
 use Rattle.std.proofs.lemmas.List.{places, take_at, drop_at}
 use Rattle.machines.specs.Systems.{Key}
 use Rattle.refinement.specs.Refining.{at, Refined}
-use Rattle.parts.specs.Steps.{raw_area, block_area, Distinguished}
+use Rattle.patterns.specs.Patterns.{Pattern}
+use Rattle.parts.specs.Steps.{raw_area, block_area, Distinguished, Finished}
 
 module _ {c k : ℕ} {t : List ℕ} {B D : ℕ → ℕ} (same : (i : ℕ) → i < k → D i ≡ B i) (R : Refined c k t B) where
   back : {i j : ℕ} → i < k → j < k → D i ≡ D j → B i ≡ B j
@@ -41,3 +42,7 @@ in_areas {next} {s} {shows} {column} {c} {n} {k} raw block rest e f D =
 -- what holds of a table's words, columns and rows holds of what they are
 pub of_table : {s t : List ℕ} {a c l k : ℕ} (P : List ℕ → ℕ → ℕ → Type 0) → (s ≡ t) × (a ≡ c) × (l ≡ k) → P s a l → P t c k
 of_table {s} {t} {a} {c} {l} {k} P (e, f, g) h = subst (λ z. P z c k) e (subst (λ (z : ℕ). P s z k) f (subst (λ (z : ℕ). P s a z) g h))
+
+-- a pattern's table is its table by whatever name
+pub finished_table : {column : ℕ → ℕ} {p : Pattern} {s t : List ℕ} {a c l k : ℕ} → (s ≡ t) × (a ≡ c) × (l ≡ k) → Finished column p k t → Finished column p l s
+finished_table {column} {p} (e, f, g) F = of_table (λ t _ k. Finished column p k t) (sym e, sym f, sym g) F

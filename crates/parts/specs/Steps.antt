@@ -2,11 +2,10 @@
 --   Finished column p k t     the k rows of t are the classes of words that leave the same of p, by first words, and show which match
 --   Distinguished, Distinguishes    a system was explored and its rows parted into blocks; or it has more than n keys
 --   raw_area n w, block_area n w    where in the work memory the rows' table stands, and their blocks
---   FollowSays, RepeatSays    so of one table read on and another from each place where the first shows 1, and of one that is read again
 --   StepDone, StepSays        the step at p's top tells at most n classes apart, and t is p's finished table; or it tells more apart
 --   Turned k t u              the outputs of the first k rows are turned, 0 into 1 and all else into 0, and nothing else is
 --   Roomy n len               room for a table of n rows and their blocks, for n keys of a row and a set of rows each, and for what finds them
-use Rattle.std.specs.Prelude.{◌≡◌, ℕ, ◌+◌, ◌*◌, ◌/◌, ◌<◌, ◌≤◌, cond, List, length, take, drop, Some, None, Option, ◌==◌, slice_index}
+use Rattle.std.specs.Prelude.{◌≡◌, ℕ, ◌+◌, ◌*◌, ◌/◌, ◌<◌, ◌≤◌, cond, List, length, take, drop, Some, None, Option, ◌==◌}
 use Rattle.std.proofs.Math.Option.{some}
 use Rattle.machines.specs.Words.{Word}
 use Rattle.machines.specs.Classes.{Classes, nth}
@@ -17,8 +16,6 @@ use Rattle.machines.specs.Minimal.{Minimal}
 use Rattle.machines.specs.Systems.{Key, Explored}
 use Rattle.exploration.specs.Exploring.{TooMany}
 use Rattle.refinement.specs.Refining.{at, Refined}
-use Rattle.refinement.specs.DeadRows.{DeadRow}
-use Rattle.subsets.specs.Sets.{followed, unread, follow_shows, again, whole}
 use Rattle.patterns.specs.Patterns.{Pattern, matches}
 use Rattle.patterns.specs.Residuals.{Of, SameResidual}
 use Rattle.patterns.specs.Searching.{bit}
@@ -46,14 +43,6 @@ raw_area n w = take (257 * n) w
 
 abbrev pub block_area : ℕ → List ℕ → List ℕ
 block_area n w = take n (drop (257 * n) w)
-
-abbrev pub FollowSays : (ℕ → ℕ) → ℕ → List ℕ → List ℕ → ℕ → ℕ → List ℕ → Option ℕ → Type 0
-FollowSays column c s t m n w r = (d : Option ℕ) × DeadRow c m t d
-    × Distinguishes (λ k b. followed s t d (m / 32 + 1) m k (column b)) (unread s d (m / 32 + 1)) (follow_shows t m) column c n (raw_area n w) (block_area n w) r
-
-abbrev pub RepeatSays : (ℕ → ℕ) → ℕ → List ℕ → ℕ → ℕ → List ℕ → Option ℕ → Type 0
-RepeatSays column c t m n w r = (d : Option ℕ) × DeadRow c m t d
-    × Distinguishes (λ k b. again t d (m / 32 + 1) m k (column b)) (whole d (m / 32 + 1)) (λ k. slice_index k 0) column c n (raw_area n w) (block_area n w) r
 
 pub record StepDone (column : ℕ → ℕ) (c : ℕ) (p : Pattern) (n k : ℕ) (t : List ℕ) : Type 0 where
   pub few : k ≤ n

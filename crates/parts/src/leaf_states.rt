@@ -7,7 +7,7 @@ use crate::leaf::Leaf;
 use exploration::system::System;
 use machines::columns::ByteColumns;
 
-// The state after one more letter.
+// The state after one more letter: a number, as keys are words.
 fn after(leaf: Leaf, state: u32, letter: u32) -> u32
     ensures { result ≡ leaf_next leaf state letter }
 {

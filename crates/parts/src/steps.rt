@@ -1,12 +1,11 @@
 // The step of the work at each kind of part. The table that comes of it stands at the front of `tables`, where a part's may have stood.
-// What is lent and where parts stand in it is said by clauses: no ghost field stands beside a `&mut`.
-ghost use Rattle.std.specs.Prelude.{◌≡◌, ℕ, ◌+◌, ◌*◌, ◌/◌, ◌≤◌, List, [], ◌∷◌, length, take, drop, if◌then◌else◌, nat_eq, slice_index};
+// What is lent, and where parts stand in it, is said by clauses: both are lent to be written, and no ghost field stands beside a `&mut`.
+ghost use Rattle.std.specs.Prelude.{◌≡◌, ℕ, ◌*◌, ◌≤◌, length, if◌then◌else◌, nat_eq, slice_index};
 ghost use Rattle.patterns.specs.Patterns.{seq, star};
-ghost use Rattle.exploration.specs.Pairs.{pair_next, pair_shows, joined};
-ghost use Rattle.parts.specs.Combining.{part_words, PartInside, joined_pattern, Changes, Combines, Complemented};
+ghost use Rattle.parts.specs.Combining.{PartInside, joined_pattern, Changes, Combines, Complemented};
 ghost use Rattle.parts.specs.Leaves.{leaf_pattern, SoundLeaf, LeafColumns};
 ghost use Rattle.parts.specs.Rooms.{Rooms};
-ghost use Rattle.parts.specs.Steps.{raw_area, block_area, Distinguishes, FollowSays, RepeatSays, StepSays};
+ghost use Rattle.parts.specs.Steps.{StepSays};
 
 use crate::distinguish::{distinguish, join_blocks};
 use crate::leaf::Leaf;
@@ -36,30 +35,6 @@ pub fn leaf(
     Some(join_blocks(columns.count, rows, most, work, tables))
 }
 
-// Two parts side by side, in blocks that aren't numbered yet.
-fn pair<'x>(
-    join: Connective,
-    first: Part,
-    second: Part,
-    columns: ByteColumns<'x>,
-    most: usize,
-    tables: &'x [u32],
-    work: &mut [u32],
-) -> Option<usize>
-    requires room { Rooms most (length tables.now) (length work.old) }
-    requires first { PartInside columns.count first tables.now }
-    requires second { PartInside columns.count second tables.now }
-    ensures { Distinguishes (pair_next (λ b. slice_index columns.entry.column.now b) (part_words first tables.now) (part_words second tables.now)) (0 ∷ 0 ∷ []) (pair_shows (joined join) (part_words first tables.now) (part_words second tables.now)) (λ b. slice_index columns.entry.column.now b) columns.entry.count most (raw_area most work.new) (block_area most work.new) result }
-{
-    let pair = Pair {
-        join,
-        left: first.table(columns.count, tables),
-        right: second.table(columns.count, tables),
-        columns,
-    };
-    distinguish(&pair, most, work)
-}
-
 // One of two parts has to match, or both have to.
 pub fn connect(
     join: Connective,
@@ -75,36 +50,17 @@ pub fn connect(
     requires second { PartInside columns.count second tables.old }
     ensures { Combines (joined_pattern join) (λ b. slice_index columns.entry.column.now b) columns.entry.count first second most tables.old tables.new result }
 {
-    let rows = pair(join, first, second, columns, most, tables, work)?;
+    let pair = Pair {
+        join,
+        left: first.table(columns.count, tables),
+        right: second.table(columns.count, tables),
+        columns,
+    };
+    let rows = distinguish(&pair, most, work)?;
     Some(join_blocks(columns.count, rows, most, work, tables))
 }
 
-// One part read on and the other from each place where the first matches, in blocks that aren't numbered yet.
-fn follow<'x>(
-    first: Part,
-    second: Part,
-    columns: ByteColumns<'x>,
-    most: usize,
-    tables: &'x [u32],
-    work: &mut [u32],
-) -> Option<usize>
-    requires room { Rooms most (length tables.now) (length work.old) }
-    requires first { PartInside columns.count first tables.now }
-    requires second { PartInside columns.count second tables.now }
-    requires few { second.rows ≤ most }
-    ensures { FollowSays (λ b. slice_index columns.entry.column.now b) columns.entry.count (part_words first tables.now) (part_words second tables.now) second.rows most work.new result }
-{
-    let back = second.table(columns.count, tables);
-    let follow = Follow {
-        front: first.table(columns.count, tables),
-        back,
-        dead: dead_row(back),
-        columns,
-    };
-    distinguish(&follow, most, work)
-}
-
-// One part after the other.
+// One part after the other: one read on, and the other from each place where the first matches.
 pub fn sequence(
     first: Part,
     second: Part,
@@ -119,33 +75,18 @@ pub fn sequence(
     requires few { second.rows ≤ most }
     ensures { Combines seq (λ b. slice_index columns.entry.column.now b) columns.entry.count first second most tables.old tables.new result }
 {
-    let rows = follow(first, second, columns, most, tables, work)?;
+    let back = second.table(columns.count, tables);
+    let follow = Follow {
+        front: first.table(columns.count, tables),
+        back,
+        dead: dead_row(back),
+        columns,
+    };
+    let rows = distinguish(&follow, most, work)?;
     Some(join_blocks(columns.count, rows, most, work, tables))
 }
 
-// One part read from the start, and again from each place where it matches, in blocks that aren't numbered yet.
-fn repeat<'x>(
-    part: Part,
-    columns: ByteColumns<'x>,
-    most: usize,
-    tables: &'x [u32],
-    work: &mut [u32],
-) -> Option<usize>
-    requires room { Rooms most (length tables.now) (length work.old) }
-    requires part { PartInside columns.count part tables.now }
-    requires few { part.rows ≤ most }
-    ensures { RepeatSays (λ b. slice_index columns.entry.column.now b) columns.entry.count (part_words part tables.now) part.rows most work.new result }
-{
-    let table = part.table(columns.count, tables);
-    let repeat = Repeat {
-        table,
-        dead: dead_row(table),
-        columns,
-    };
-    distinguish(&repeat, most, work)
-}
-
-// One part any number of times.
+// One part any number of times: read from the start, and again from each place where it matches.
 pub fn repetition(
     part: Part,
     columns: ByteColumns<'_>,
@@ -158,7 +99,13 @@ pub fn repetition(
     requires few { part.rows ≤ most }
     ensures { Changes star (λ b. slice_index columns.entry.column.now b) columns.entry.count part most tables.old tables.new result }
 {
-    let rows = repeat(part, columns, most, tables, work)?;
+    let table = part.table(columns.count, tables);
+    let repeat = Repeat {
+        table,
+        dead: dead_row(table),
+        columns,
+    };
+    let rows = distinguish(&repeat, most, work)?;
     Some(join_blocks(columns.count, rows, most, work, tables))
 }
 

@@ -4,7 +4,8 @@ ghost use Rattle.refinement.specs.Refining.{at, Same, Other, Found, Refined};
 
 use machines::raw::RawTable;
 
-// Whether two rows are in one block, show the same and lead to the same blocks.
+// Whether two rows are in one block, show the same and lead to the same blocks. That each row has a block is a clause here and below:
+// blocks are lent to be written.
 fn alike(table: RawTable<'_>, block: &[u32], i: usize, j: usize) -> bool
     requires block { length block.now ≡ table.rows }
     requires i { i < table.rows }

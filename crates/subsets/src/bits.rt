@@ -1,4 +1,4 @@
-// Sets of rows as bits in words; the dead row is never put in.
+// Sets of rows as bits in words; the dead row is never put in. That the words have a bit for a row is a clause: they are lent.
 ghost use Rattle.std.specs.Prelude.{◌≡◌, ℕ, ◌+◌, ◌-◌, ◌*◌, ◌/◌, ◌%◌, ◌<◌, ◌≤◌, Option, IfSome, length, replicate};
 ghost use Rattle.std.specs.Iterator.{at_most};
 ghost use Rattle.subsets.specs.Sets as sets;
@@ -78,7 +78,7 @@ impl<'a> Iterator for Members<'a> {
 
     ghost remaining = { λ s. at_most (s.rows - s.at) };
 
-    // Where the rest of a word is 0 it is passed over at once.
+    // Where the rest of a word is 0 it is passed over at once: a step isn't always one, so no `for` takes it.
     fn next(&mut self) -> Option<usize> {
         while self.at < self.rows {
             if let Some(q) = in_word(self.words, self.at) {
@@ -134,6 +134,7 @@ pub fn accepts(table: RawTable<'_>, words: &[u32]) -> bool
     requires { table.rows ≤ 32 * length words.now }
     ensures { result ≡ sets.accepts table.entry.words.now words.now table.entry.rows }
 {
+    // A `for`: that the closure of `any` may be called at each member stayed open.
     for q in Members::new(words, table.rows()) {
         if table.shown(q) == 1 {
             return true;

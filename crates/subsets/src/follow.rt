@@ -58,6 +58,6 @@ impl<'a> System for Follow<'a> {
     }
 
     fn show(&self, key: &[u32]) -> u32 {
-        bits::accepts(self.back, &key[1..]) as u32
+        u32::from(bits::accepts(self.back, &key[1..]))
     }
 }

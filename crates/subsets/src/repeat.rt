@@ -53,7 +53,7 @@ impl<'a> System for Repeat<'a> {
         bits::moves(self.table, self.dead, at, &key[1..], reached);
         let mark = bits::accepts(self.table, reached);
         bits::mark_first(reached, mark, self.dead);
-        out[0] = mark as u32;
+        out[0] = u32::from(mark);
     }
 
     fn show(&self, key: &[u32]) -> u32 {

@@ -1,4 +1,4 @@
-// Feeding, for callers in C.
+// Feeding, for callers in C: what is lent comes one by one, and a validated table has a call of its own, as the header says.
 ghost use Rattle.std.specs.Prelude.{◌<◌, ◌≡◌};
 ghost use Rattle.machines.specs.Tables.{SoundTable};
 ghost use Rattle.terntrolley.specs.Codes.{fed_code, fed_next, FedCoded, Validated};

@@ -33,6 +33,7 @@ fn measure(rt: &HostRuntime, size: u32, timed: bool) -> io::Result<()> {
     let mut rows = 0;
     let begun = Instant::now(rt)?;
     for _turn in 0..turns {
+        // What wasn't done is printed as 0, here and below.
         rows = explored(heap, size, table.as_mut_slice())?.unwrap_or(0);
     }
     let exploring = begun.elapsed(rt)?.as_micros();
