@@ -116,18 +116,10 @@ impl Reader<'_> {
         ensures past { OnOk result (Past self.old self.new) }
         ensures byte { IfOk result (λ byte. byte < 256) }
     {
-        match self.peek() {
-            Some(b'\\') => {
-                self.at += 1;
-                self.escape(b"\"]-^")
-            }
-            None | Some(b'\n') => Err(self.fault(Expected::ClosingClass)),
-            Some(b']' | b'-') => Err(self.fault(Expected::ClassByte)),
-            Some(byte) => {
-                self.at += 1;
-                Ok(byte)
-            }
+        if let Some(b']' | b'-') = self.peek() {
+            return Err(self.fault(Expected::ClassByte));
         }
+        self.plain_byte(b"\"]-^", Expected::ClosingClass)
     }
 
     // Writes the members from `low` on: their runs, joined by 'or'.

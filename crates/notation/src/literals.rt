@@ -25,7 +25,7 @@ impl Reader<'_> {
     fn literal_rest(&mut self, list: &mut Vec<u8>) -> Result<(), Fault>
         ensures { OnOk result (Parsed self.old self.new list.old.items list.new.items) }
     {
-        let byte = self.literal_byte()?;
+        let byte = self.plain_byte(b"\"", Expected::ClosingQuote)?;
         if self.accept(b'"') {
             return self.put(list, Node::Range(byte, byte));
         }
@@ -34,17 +34,17 @@ impl Reader<'_> {
         self.literal_rest(list)
     }
 
-    // One byte of a literal, as itself or as an escape.
-    fn literal_byte(&mut self) -> Result<u8, Fault>
+    // One byte, as itself or as an escape; `missing` is what is expected where the text or the line ends.
+    pub fn plain_byte(&mut self, special: &[u8], missing: Expected) -> Result<u8, Fault>
         ensures past { OnOk result (Past self.old self.new) }
         ensures byte { IfOk result (λ b. b < 256) }
     {
         match self.peek() {
             Some(b'\\') => {
                 self.at += 1;
-                self.escape(b"\"")
+                self.escape(special)
             }
-            None | Some(b'\n') => Err(self.fault(Expected::ClosingQuote)),
+            None | Some(b'\n') => Err(self.fault(missing)),
             Some(byte) => {
                 self.at += 1;
                 Ok(byte)

@@ -62,6 +62,7 @@ impl Reader<'_> {
         ensures { On self.old self.new }
     {
         let mut comment = false;
+        // A loop: what a byte means depends on whether a comment has begun.
         while let Some(byte) = self.peek() {
             match byte {
                 b'\n' => return,
@@ -125,12 +126,8 @@ impl Reader<'_> {
         ensures on { On self.old self.new }
         ensures within { self.old.at ≤ length self.old.text.now → self.new.at ≤ length self.old.text.now }
     {
-        while let Some(byte) = self.peek() {
-            if !goes_on_word(byte) {
-                return;
-            }
-            self.at += 1;
-        }
+        let rest = self.text.get(self.at..).unwrap_or(&[]);
+        self.at += rest.iter().take_while(|byte| goes_on_word(**byte)).count();
     }
 }
 

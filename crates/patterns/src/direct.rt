@@ -5,14 +5,11 @@ ghost use Rattle.patterns.specs.Promises.{SomePattern, SomeList, MatchesAt, Sequ
 
 use crate::list::{Patterns, pattern_behind, read_list};
 use crate::node::{Node, read_node};
-use thiserror::Error;
 
 // Why a text was not searched: the bytes are no list, or there is too little room for the bits.
-#[derive(Clone, Copy, PartialEq, Debug, Drop, Error)]
+#[derive(Clone, Copy, PartialEq, Debug)]
 pub enum SearchError {
-    #[error("no list of patterns")]
     NoList,
-    #[error("too little room for the bits")]
     Full,
 }
 

@@ -3,14 +3,11 @@ ghost use Rattle.std.specs.Prelude.{◌<◌};
 ghost use Rattle.patterns.specs.Feeding.{FedSays, FedPost};
 
 use machines::table::{Row, Table, is_table};
-use thiserror::Error;
 
-// Why a piece was not read.
-#[derive(Clone, Copy, PartialEq, Debug, Drop, Error)]
+// Why a piece was not read: the numbers are no table or have no such row, or there is too little room for the bits.
+#[derive(Clone, Copy, PartialEq, Debug)]
 pub enum FeedError {
-    #[error("no table, or no such row of it")]
     NoTable,
-    #[error("too little room for the bits")]
     Full,
 }
 
