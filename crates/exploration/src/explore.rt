@@ -43,25 +43,26 @@ fn explore_row<S: System>(
     Some(())
 }
 
-// Numbers the keys that the system reaches in an index that has none yet, and writes their rows.
-fn explore_all<S: System>(
+// Numbers the keys that the system reaches in an index that has none yet, and writes their rows; nothing if there are more than it has
+// room for. For areas that don't lie in one slice; `scratch` is for one key.
+pub fn explore_in<S: System>(
     sys: &S,
     index: &mut Index<'_, '_, '_>,
     scratch: &mut [u32],
     table: &mut [u32],
 ) -> Option<usize>
     requires ready { S.System.ready sys.now }
-    requires lawful { IsLawful S.System sys.now }
     requires width { index.old.size ≡ S.System.width sys.now }
     requires stands { Stands index.old }
     requires most { index.old.most < 2 ^ 32 - 1 }
     requires none { index.old.count ≡ 0 }
-    requires scratch { length scratch.old ≡ index.old.size }
+    requires scratch { index.old.size ≤ length scratch.old }
     requires table { 257 * index.old.most ≤ length table.old }
     ensures says { Says (S.System.next sys.now) (S.System.begin sys.now) (S.System.shows sys.now) (S.System.column sys.now) (S.System.count sys.now) index.old.size index.old.most index.new.keys.now table.new result }
     ensures same { index.new.keys.ghost_name ≡ index.old.keys.ghost_name }
     ensures rest { drop (257 * index.old.most) table.new ≡ drop (257 * index.old.most) table.old }
 {
+    let scratch = &mut scratch[..sys.size()];
     let columns = sys.columns();
     sys.start(scratch);
     let first = index.settle(scratch)?;
@@ -94,5 +95,5 @@ pub fn explore<S: System>(
     let (heads, behind) = behind.split_at_mut(BUCKETS);
     let (links, _) = behind.split_at_mut(most);
     let mut index = Index::new(keys, size, most, heads, links);
-    explore_all(sys, &mut index, scratch, table)
+    explore_in(sys, &mut index, scratch, table)
 }

@@ -2,7 +2,7 @@
 // In `heads` and `links` a key's number is one more than its class, and 0 ends a chain: lent words hold no Option.
 ghost use Rattle.std.specs.Prelude.{◌≡◌, ℕ, ◌+◌, ◌-◌, ◌*◌, ◌^◌, ◌<◌, ◌≤◌, length};
 ghost use Rattle.exploration.specs.Keys.{key_at, Finds, Settled};
-ghost use Rattle.exploration.specs.Hashed.{hashed};
+ghost use Rattle.exploration.specs.Hashed.{hashed, Indexed};
 ghost use Rattle.exploration.specs.Standing.{Stands, Same, Counts};
 
 use crate::keys;
@@ -23,6 +23,40 @@ fn hash(key: &[u32]) -> u64
         h = (h * 2654435761 + *w as u64) % 4294967291;
     }
     h
+}
+
+// The first `count` keys of `size` words each, only to be read, with their buckets.
+#[derive(Clone, Copy)]
+pub struct Keys<'a> {
+    pub words: &'a [u32],
+    pub size: usize,
+    pub count: usize,
+    pub heads: &'a [u32],
+    pub links: &'a [u32],
+    pub ghost room: { count * size ≤ length words.now },
+    pub ghost buckets: { length heads.now ≡ 4096 },
+    pub ghost chains: { count ≤ length links.now },
+    pub ghost indexed: { Indexed 4096 (key_at words.now size) count heads.now links.now },
+}
+
+impl<'a> Keys<'a> {
+    // The class of `key`. Inlined, as what `Index` does is, so that a system's width is known where keys are compared.
+    #[inline]
+    pub fn find(self, key: &[u32]) -> Option<Class>
+        requires { length key.now ≡ self.size }
+        ensures { Finds self.entry.words.now self.entry.size self.entry.count key.now result }
+    {
+        let (words, heads, links) = (self.words, self.heads, self.links);
+        let mut next = heads[(hash(key) % BUCKETS as u64) as usize] as usize;
+        // No `for`: a chain in lent words ends where a link is 0.
+        while next > 0 {
+            if keys::at(words, self.size, next - 1) == key {
+                return Some(Class(next - 1));
+            }
+            next = links[next - 1] as usize;
+        }
+        None
+    }
 }
 
 // The first `count` keys of `size` words each, with room for `most`. What holds of the parts is `Stands`, as a ghost field can't
@@ -81,22 +115,21 @@ impl<'k, 'h, 'l> Index<'k, 'h, 'l> {
         keys::at(self.keys, self.size, i)
     }
 
-    // The class of `key`. Inlined, as this and `settle` are, so that a system's width is known where keys are compared.
+    // The class of `key`.
     #[inline]
     pub fn find(&self, key: &[u32]) -> Option<Class>
         requires stands { Stands self.now }
         requires long { length key.now ≡ self.now.size }
         ensures { Finds self.now.keys.now self.now.size self.now.count key.now result }
     {
-        let mut next = self.heads[(hash(key) % BUCKETS as u64) as usize] as usize;
-        // No `for`: a chain in lent words ends where a link is 0.
-        while next > 0 {
-            if self.key(next - 1) == key {
-                return Some(Class(next - 1));
-            }
-            next = self.links[next - 1] as usize;
-        }
-        None
+        let keys = Keys {
+            words: &*self.keys,
+            size: self.size,
+            count: self.count,
+            heads: &*self.heads,
+            links: &*self.links,
+        };
+        keys.find(key)
     }
 
     // The class of `key`, which is put behind the other keys if it is new; nothing if there is no room for it.

@@ -3,7 +3,8 @@ ghost use Rattle.std.specs.Prelude.{◌≡◌, ℕ, ◌<◌, List, length};
 ghost use Rattle.machines.specs.Columns.{Columns};
 ghost use Rattle.machines.specs.Systems.{Lawful};
 
-// That a system is ready is a clause of each call: a trait has no fields, so no ghost field says it once.
+// That a system is ready is a clause of each call: a trait has no fields, so no ghost field says it once for all systems.
+// Each system names its own columns: some compute them, and have no lists as `ByteColumns` has.
 pub trait System {
     // how many words a key has, and how many columns the bytes have
     ghost width: { Self → ℕ };

@@ -1,7 +1,7 @@
 use Rattle.std.proofs.Common.{◌≡◌, ◌*◌, drop, sym, refl, ◌∙◌, subst, arith}
 use Rattle.exploration.proofs.Buckets.{same_on}
 use Rattle.exploration.proofs.Settling.{on_as, on_begun, on_ended, none_fits}
-use Rattle.exploration.proofs.explore.explore_all.Goals as goal
+use Rattle.exploration.proofs.explore.explore_in.Goals as goal
 
 pub returns-in_err-first : goal.returns-in_err-first
 returns-in_err-first g c =
@@ -41,7 +41,7 @@ pub returns : goal.returns
 returns g c =
     let inv = c.loop-row.invariant in
     record {
-      says = on_ended c.columns-columns.ensures.columns c.requires.lawful (on_as (sym c.columns-columns.ensures.is) (sym inv.same.size) (c.count-2.ensures) inv.on) (omega arith) (omega (arith, inv.stands.few, inv.same.most)) (omega (arith, c.requires.table, c.loop-row.auto.table));
+      says = on_ended c.columns-columns.ensures.columns c.size.ensures.lawful (on_as (sym c.columns-columns.ensures.is) (sym inv.same.size) (c.count-2.ensures) inv.on) (omega arith) (omega (arith, inv.stands.few, inv.same.most)) (omega (arith, c.requires.table, c.loop-row.auto.table));
       same = inv.same.keys;
       rest = inv.rest;
     }

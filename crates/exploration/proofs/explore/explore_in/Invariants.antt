@@ -1,7 +1,7 @@
 use Rattle.std.proofs.Common.{◌≡◌, ◌-◌, ◌*◌, ◌≤◌, drop}
 use Rattle.exploration.specs.Standing.{Stands, Same}
 use Rattle.exploration.specs.Exploring.{ReadTo}
-use Rattle.exploration.proofs.explore.explore_all.Given as goal
+use Rattle.exploration.proofs.explore.explore_in.Given as goal
 
 abbrev pub invariant-loop-row : goal.invariant-loop-row
 invariant-loop-row g l = record {
