@@ -34,9 +34,9 @@ fn put_row(raw: RawTable<'_>, i: usize, names: &[u32], table: &mut [u32])
 {
     let to = 257 * names[i] as usize;
     table[to] = raw.shown(i);
-    // By number, and not over `raw.cells(i)`: a column stands at one place in both tables.
-    for a in 0..raw.columns() {
-        table[to + (1 + a)] = names[raw.cell(i, a)];
+    for (a, to_row) in raw.cells(i).iter().enumerate() {
+        let to_row = *to_row as usize;
+        table[to + (1 + a)] = names[to_row];
     }
 }
 
