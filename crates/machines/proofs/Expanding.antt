@@ -1,5 +1,5 @@
 -- Rows written one by one with a cell for each byte, and the machine that they are then. Assumes nothing.
-use Rattle.std.proofs.Common.{◌≡◌, ℕ, ◌+◌, ◌-◌, ◌*◌, ◌<◌, ◌≤◌, List, length, get_or, take, drop, set, sym, refl, ap, ◌∙◌, subst, arith, below_more}
+use Rattle.std.proofs.Common.{◌≡◌, ℕ, ◌+◌, ◌-◌, ◌*◌, ◌<◌, ◌≤◌, List, length, get_or, take, drop, set, sym, ap, ◌∙◌, subst, arith, below_more}
 use borrow.Rule.Slice.PartMut.{put_mid}
 use Rattle.std.proofs.lemmas.List.{places, get_or-take, get_or-set_same, get_or-set_other, drop-drop}
 use Rattle.std.proofs.lemmas.Slice.{drop-put_mid}
@@ -13,9 +13,6 @@ pub record RowPartly (column : ℕ → ℕ) (r r' : List ℕ) (b : ℕ) : Type 0
   pub shows : get_or r' 0 0 ≡ get_or r 0 0
   pub on : (a : ℕ) → a < b → get_or r' (1 + a) 0 ≡ get_or r (1 + column a) 0
 
-pub row_begun : {column : ℕ → ℕ} (r r' : List ℕ) → 0 < length r' → RowPartly column r (set r' 0 (get_or r 0 0)) 0
-row_begun r r' h = record { shows = get_or-set_same r' 0 (get_or r 0 0) 0 h; on = λ a l. absurd (omega arith) }
-
 pub row_more : {column : ℕ → ℕ} {r r' : List ℕ} {b x : ℕ} → 1 + b < length r' → x ≡ get_or r (1 + column b) 0 → RowPartly column r r' b
     → RowPartly column r (set r' (1 + b) x) (b + 1)
 row_more {column = column} {r = r} {r' = r'} {b = b} {x = x} h e P = record {
@@ -25,17 +22,11 @@ row_more {column = column} {r = r} {r' = r'} {b = b} {x = x} h e P = record {
       (get_or-set_same r' (1 + b) x 0 h ∙ e);
 }
 
-pub row_all : {column : ℕ → ℕ} {r r' : List ℕ} {b : ℕ} → 256 ≤ b → RowPartly column r r' b → RowExpanded column r r'
-row_all h P = record { shows = P.shows; on = λ a l. P.on a (omega arith) }
-
 -- the rows below k of a table
 pub record PartlyExpanded (column : ℕ → ℕ) (k : ℕ) (raw t t' : List ℕ) : Type 0 where
   pub shows : (i : ℕ) → i < k → shown t' i ≡ shown raw i
   pub on : (i : ℕ) → i < k → (b : ℕ) → b < 256 → cell t' i b ≡ cell raw i (column b)
   pub rest : drop (257 * k) t' ≡ drop (257 * k) t
-
-pub expanded_none : {column : ℕ → ℕ} {raw t : List ℕ} → PartlyExpanded column 0 raw t t
-expanded_none = record { shows = λ i l. absurd (omega arith); on = λ i l. absurd (omega arith); rest = refl }
 
 pub expanded_more : {column : ℕ → ℕ} {raw t t' r : List ℕ} {k : ℕ} (row : List ℕ) → r ≡ take 257 (drop (257 * k) raw) → ((b : ℕ) → b < 256 → column b < 256) → 257 * k + 257 ≤ length t'
     → length row ≡ 257 → RowExpanded column r row → PartlyExpanded column k raw t t'

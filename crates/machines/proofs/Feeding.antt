@@ -1,6 +1,6 @@
 -- A table that is fed a piece: what holds after its first bytes. Assumes nothing.
-use Rattle.std.proofs.Common.{◌≡◌, ℕ, ◌+◌, ◌*◌, ◌<◌, ◌≤◌, List, [], ◌∷◌, ◌++◌, length, get_or, take, drop, set, sym, refl, ap, ◌∙◌, arith}
-use Rattle.std.proofs.lemmas.List.{at_drop_more, at_drop_all, append-nil, append_assoc, take_more_set, drop-set-lt}
+use Rattle.std.proofs.Common.{◌≡◌, ℕ, ◌+◌, ◌*◌, ◌<◌, ◌≤◌, List, [], ◌∷◌, ◌++◌, length, get_or, take, drop, set, sym, ap, ◌∙◌, arith}
+use Rattle.std.proofs.lemmas.List.{at_drop_more, append_assoc, take_more_set, drop-set-lt}
 use Rattle.machines.specs.Words.{Word}
 use Rattle.machines.specs.Tables.{LeadsInside, walk, seen}
 use Rattle.machines.proofs.Cells.{or0_nth}
@@ -27,9 +27,6 @@ seen_more t w at i h = at_drop_more (seen t at) w i 0 h ∙ simp or0_nth
 written_more : (o s : List ℕ) (i x : ℕ) → i < length o → take (i + 1) (set o i x) ++ s ≡ take i o ++ (x ∷ s)
 written_more o s i x h = rw (take_more_set o i x h) (append_assoc (take i o) (x ∷ []) s)
 
-pub feeding_none : (k : ℕ) (t : List ℕ) (w : Word) (o : List ℕ) (row : ℕ) → row < k → Feeding k t w o row o row 0
-feeding_none k t w o row h = record { there = h; leads = refl; shows = refl; beyond = refl }
-
 module _ {k : ℕ} {t : List ℕ} {w : Word} {before : List ℕ} {row : ℕ} {o : List ℕ} {at i : ℕ} where
   pub feeding_more : LeadsInside k t → i < length w → length w ≤ length o → get_or w i 0 < 256 → Feeding k t w before row o at i
       → Feeding k t w before row (set o i (get_or t (257 * goes t at (get_or w i 0)) 0)) (goes t at (get_or w i 0)) (i + 1)
@@ -39,11 +36,3 @@ module _ {k : ℕ} {t : List ℕ} {w : Word} {before : List ℕ} {row : ℕ} {o 
     shows = written_more o _ i _ lo ∙ ap (λ s. take i o ++ s) (sym (seen_more t w at i hi)) ∙ f.shows;
     beyond = drop-set-lt (length w) o i _ hi ∙ f.beyond;
   }
-
-  -- at the end of the piece
-  pub feeding_walk : length w ≤ i → Feeding k t w before row o at i → at ≡ walk t row w
-  feeding_walk h f = sym (at_drop_all (walk t at) w i h) ∙ f.leads
-
-  pub feeding_seen : i ≡ length w → Feeding k t w before row o at i → take (length w) o ≡ seen t row w
-  feeding_seen e f = let h : length w ≤ i = omega arith in
-      ap (λ n. take n o) (sym e) ∙ sym (ap (λ s. take i o ++ s) (at_drop_all (seen t at) w i h) ∙ append-nil (take i o)) ∙ f.shows

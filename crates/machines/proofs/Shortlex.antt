@@ -1,6 +1,6 @@
 -- Shortlex is a strict total order, and how a comparison of two words goes on byte by byte. Assumes nothing.
 use Rattle.std.proofs.Common.{◌≡◌, ℕ, suc, ◌+◌, ◌<◌, ◌≤◌, ◌⊎◌, [], ◌∷◌, length, get_or, drop, sym, refl, ap, ◌∙◌, inl, inr, ⊎_elim, arith}
-use Rattle.std.proofs.lemmas.List.{drop_more, drop_all, length-drop}
+use Rattle.std.proofs.lemmas.List.{drop_more, length-drop}
 use Rattle.std.proofs.lemmas.Bool.{cases_order}
 use Rattle.machines.specs.Words.{Word, Less, at_once, later, shorter, StrictTotal}
 
@@ -86,9 +86,6 @@ pub record Level (u v : Word) (i : ℕ) : Type 0 where
   pub below : Less (drop i u) (drop i v) → Less u v
   pub above : Less (drop i v) (drop i u) → Less v u
 
-pub level_none : (u v : Word) → length u ≡ length v → Level u v 0
-level_none u v e = record { long = e; within = omega arith; same = λ s. s; below = λ l. l; above = λ l. l }
-
 -- what is left of a word at a place within it
 left_at : (u : Word) (i : ℕ) → i < length u → drop i u ≡ get_or u i 0 ∷ drop (i + 1) u
 left_at u i h = drop_more u i 0 h
@@ -114,6 +111,3 @@ module _ {u v : Word} {i : ℕ} (level : Level u v i) (h : i < length u) where
 
   pub level_above : get_or v i 0 < get_or u i 0 → Less v u
   level_above l = level.above (rw (left_at u i h, left_at v i there) (at_once l (left_long v u (i + 1) (sym level.long))))
-
-pub level_all : {u v : Word} {i : ℕ} → Level u v i → i ≡ length u → u ≡ v
-level_all {u = u} {v = v} {i = i} level e = level.same (drop_all i u (omega arith) ∙ sym (drop_all i v (omega (arith, level.long))))

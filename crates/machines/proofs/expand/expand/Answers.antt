@@ -1,10 +1,7 @@
 use Rattle.std.proofs.Common.{◌∙◌, arith}
 use Rattle.machines.proofs.Cells.{row_long}
-use Rattle.machines.proofs.Expanding.{expanded_none, expanded_more, expanded_all}
+use Rattle.machines.proofs.Expanding.{expanded_more, expanded_all}
 use Rattle.machines.proofs.expand.expand.Goals as goal
-
-pub loop-i-init : goal.loop-i-init
-loop-i-init c = expanded_none
 
 pub loop-i-preserved : goal.loop-i-preserved
 loop-i-preserved c = expanded_more c.expand_row.new.row c.row.ensures.words (λ b l. omega (arith, c.requires.within b l)) (omega arith)
