@@ -5,7 +5,6 @@ pub mod Behinds
 pub mod Sequences
 pub mod Repetitions
 pub mod Complements
-pub mod LeafStates
 pub mod Distinguishing
 pub mod Rooms
 pub mod Turning
