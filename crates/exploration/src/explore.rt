@@ -34,7 +34,7 @@ fn explore_row<S: System>(
 {
     let cells = &mut table[257 * row..257 * row + 257];
     cells[0] = sys.show(index.key(row));
-    // By number: a system steps by a column's number, and what it leads to is found in the index.
+    // By number, as a system steps by one; a loop over the cells would want them parted once more from what the row shows.
     for c in 0..columns {
         sys.step(index.key(row), c, scratch);
         let to = index.settle(scratch)?;

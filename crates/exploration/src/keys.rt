@@ -1,4 +1,4 @@
-// Keys side by side in lent words, each of so many words.
+// Keys side by side in lent words, each of so many words: no struct, as they are read in one place and written in another.
 ghost use Rattle.std.specs.Prelude.{◌≡◌, ℕ, ◌+◌, ◌*◌, ◌≤◌, length};
 ghost use Rattle.exploration.specs.Keys.{key_at, Kept};
 

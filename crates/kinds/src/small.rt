@@ -1,4 +1,4 @@
-// Small patterns over two letters, in prefix order.
+// Small patterns over two letters, in prefix order: in bytes, so that they are written without what is tried.
 use std::alloc::{AllocError, Global};
 
 // Nothing, empty, the ranges from a to a and from b to b.

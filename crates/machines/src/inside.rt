@@ -1,4 +1,4 @@
-// Tables on the way, looked at before they are worked on.
+// Tables, looked at before they are worked on or fed.
 ghost use Rattle.std.specs.Prelude.{◌≡◌, ℕ, ◌*◌, ◌<◌, ◌≤◌, true, ◌↔◌, length, All, IsTrue};
 ghost use Rattle.machines.specs.Columns.{cell};
 ghost use Rattle.machines.specs.Inside.{Inside};

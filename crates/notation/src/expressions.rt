@@ -1,5 +1,5 @@
 // Expressions, loosest first: or, and, one after the other, not, repetitions, and what stands for itself. Each function
-// writes the pattern that it reads behind the bytes of the list.
+// writes the pattern that it reads behind the bytes of the list; that it does is its own promise, which no value carries.
 //
 // They call one another, and so go as deep as brackets nest and as operators follow one another. The first is bounded by
 // MOST_NESTING; each of the second has written a byte before it goes deeper, and a list has few.

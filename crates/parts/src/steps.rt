@@ -1,5 +1,7 @@
 // The step of the work at each kind of part. The table that comes of it stands at the front of `tables`, where a part's may have stood.
-// What is lent, and where parts stand in it, is said by clauses: both are lent to be written, and no ghost field stands beside a `&mut`.
+// What is lent, and where parts stand in it, is said by clauses: no ghost field stands beside a `&mut`, and a struct of what is lent would
+// be taken apart at each call, which is lent another end of the tables. Each step ends in two calls: the one reads parts in `tables`, the
+// other writes there.
 ghost use Rattle.std.specs.Prelude.{◌≡◌, ℕ, ◌*◌, ◌≤◌, length, if◌then◌else◌, nat_eq, slice_index};
 ghost use Rattle.patterns.specs.Patterns.{seq, star};
 ghost use Rattle.parts.specs.Combining.{PartInside, joined_pattern, Changes, Combines, Complemented};

@@ -59,7 +59,7 @@ pub fn read_node(list: &[u8], at: usize) -> Option<Node>
     ensures { NodeRead list.now at result }
 {
     let kind = *list.get(at)?;
-    // The inverse of `tag` for the kinds.
+    // The inverse of `tag` for the kinds, and no TryFrom: a tag is one byte, and a range is read from three of a list.
     match kind {
         0 => Some(Node::Nothing),
         1 => Some(Node::Empty),

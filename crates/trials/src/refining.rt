@@ -4,7 +4,8 @@ use refinement::dead_row::dead_row;
 use refinement::quotient::quotient;
 use refinement::refine::refine;
 
-// How many rows the least table has, which is written to `table`, if `raw` is one. `block` has each row's block.
+// How many rows the least table has, which is written to `table`, if `raw` is one. `block` has each row's block. The tests give words,
+// columns and rows as they are, which are looked at here.
 fn least_table(
     raw: &[u32],
     columns: usize,

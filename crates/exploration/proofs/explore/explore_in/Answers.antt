@@ -25,18 +25,6 @@ loop-row-init g c =
       rest = refl;
     }
 
-pub loop-row-preserved : goal.loop-row-preserved
-loop-row-preserved g c =
-    let inv = c.loop-row.invariant in
-    let done = c.in_ok-explore_row.ensures in
-    record {
-      stands = done.stands;
-      same = same_on inv.same done.same;
-      reached = omega (arith, done.says.0);
-      on = done.says.1;
-      rest = subst (λ m. drop (257 * m) c.explore_row.new.table ≡ drop (257 * m) c.loop-row.table) inv.same.most done.rest ∙ inv.rest;
-    }
-
 pub returns : goal.returns
 returns g c =
     let inv = c.loop-row.invariant in

@@ -114,14 +114,6 @@ sequence_matches-returns-then-matches_at-2 t c p q stop end h g =
     sym (cut_some (matches p) (matches q) w (length w) c.loop-cut.cut c.loop-cut-test.true
     (cut_serves (matches p) (matches q) w c.loop-cut.cut _ _ (c.matches_at.ensures p stop h) (c.matches_at-then-matches_at.ensures q end g) c.if-matches_at.true c.if-matches_at-2.true))
 
-pub sequence_matches-loop-cut-preserved : goal.sequence_matches-loop-cut-preserved
-sequence_matches-loop-cut-preserved t c p q stop end h g =
-    let w = c.args.word.now in
-    below_more _ _ (c.loop-cut.invariant p q stop end h g) (elim c.else-matches_at.branch [
-      | sequence_matches-else-matches_at-via-then-matches_at+else-matches_at-2 v ↦ rest_fails (matches p) (matches q) w c.loop-cut.cut _ (v.matches_at-then-matches_at.ensures q end g) v.if-matches_at-2.false
-      | sequence_matches-else-matches_at-via-else-matches_at v ↦ front_fails (matches p) (matches q) w c.loop-cut.cut _ (c.matches_at.ensures p stop h) v.if-matches_at.false
-    ])
-
 pub sequence_matches-returns-else-matches_at : goal.sequence_matches-returns-else-matches_at
 sequence_matches-returns-else-matches_at t c p q stop end h g =
     let w = c.args.word.now in
@@ -137,14 +129,6 @@ star_matches-returns-then-star_matches t c p stop h =
     let w = c.args.word.now in
     star_some p w c.loop-cut.cut (omega arith) c.loop-cut-test.true
     (cut_serves (matches p) (matches (star p)) w c.loop-cut.cut _ _ (c.matches_at.ensures p stop h) (c.star_matches.ensures p stop h) c.if-matches_at.true c.if-star_matches.true)
-
-pub star_matches-loop-cut-preserved : goal.star_matches-loop-cut-preserved
-star_matches-loop-cut-preserved t c p stop h =
-    let w = c.args.word.now in
-    below_more _ _ (c.loop-cut.invariant p stop h) (λ pos. elim c.else-matches_at.branch [
-      | star_matches-else-matches_at-via-then-matches_at+else-star_matches v ↦ rest_fails (matches p) (matches (star p)) w c.loop-cut.cut _ (v.star_matches.ensures p stop h) v.if-star_matches.false
-      | star_matches-else-matches_at-via-else-matches_at v ↦ front_fails (matches p) (matches (star p)) w c.loop-cut.cut _ (c.matches_at.ensures p stop h) v.if-matches_at.false
-    ])
 
 pub star_matches-returns-else-matches_at : goal.star_matches-returns-else-matches_at
 star_matches-returns-else-matches_at t c p stop h =

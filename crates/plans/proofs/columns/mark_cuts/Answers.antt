@@ -9,8 +9,3 @@ loop-at-preserved c = elim c.match-read_node.branch [
   | in-Some w ↦ subst (λ z. Marked c.args.list.now z (c.loop-at.at + 1)) (sym (w.cuts-is ∙ w.mark.ensures)) (marked_more c.loop-at.cuts (omega arith) c.loop-at.invariant w.in-Some.ensures)
   | in_default w ↦ subst (λ z. Marked c.args.list.now z (c.loop-at.at + 1)) (sym w.cuts-is) (marked_past c.loop-at.invariant w.in_default.ensures)
 ]
-
-pub returns : goal.returns
-returns c =
-    let e : c.loop-at.at ≡ length c.args.list.now = omega arith in
-    subst (λ (n : ℕ). Marked c.args.list.now c.loop-at.cuts n) e c.loop-at.invariant

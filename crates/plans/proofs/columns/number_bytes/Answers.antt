@@ -9,15 +9,9 @@ is : (column : List ℕ) (b : ℕ) {cuts least v : List ℕ} {j k n : ℕ} → k
 is column b {cuts = cuts} {least = least} {k = k} {n = n} e d D =
     subst (λ z. Divided cuts (set column b k) z k n) (sym d) (subst (λ z. Divided cuts (set column b z) least z n) (sym e) D)
 
-pub loop-b-init : goal.loop-b-init
-loop-b-init c = divided_start _ _ _ (omega arith) (omega arith)
-
 pub loop-b-preserved : goal.loop-b-preserved
 loop-b-preserved c =
     elim c.if-cuts-b-ne0.branch [
       | then-cuts-b-ne0 w ↦ is c.loop-b.column c.loop-b.b w.j-is w.least-is (divided_cut c.loop-b.invariant (omega (arith, length-set c.args.column.now 0 0)) (omega (arith, length-set c.args.least.now 0 0, c.loop-b.invariant.few)))
       | else-cuts-b-ne0 w ↦ is c.loop-b.column c.loop-b.b w.j-is w.least-is (divided_on c.loop-b.invariant (omega (arith, length-set c.args.column.now 0 0)) w.if-cuts-b-ne0.false)
     ]
-
-pub returns : goal.returns
-returns c = let e : c.loop-b.b ≡ 256 = omega arith in subst (λ (n : ℕ). Divided c.args.cuts.now c.loop-b.column c.loop-b.least c.loop-b.j n) e c.loop-b.invariant

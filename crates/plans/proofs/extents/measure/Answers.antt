@@ -4,6 +4,3 @@ use Rattle.plans.proofs.extents.measure.Goals as goal
 
 pub loop-at-init : goal.loop-at-init
 loop-at-init c = measured_none _ _ _ _ (omega arith)
-
-pub loop-at-preserved : goal.loop-at-preserved
-loop-at-preserved c = measured_past c.loop-at.invariant (omega arith) c.in_default.ensures
