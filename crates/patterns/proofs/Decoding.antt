@@ -1,7 +1,5 @@
 -- Reading one node, and a pattern as a node with parts. Assumes nothing.
-use Rattle.std.proofs.Common.{◌≡◌, ℕ, zero, suc, ◌+◌, ◌<◌, ◌≤◌, Bool, true, false, cond, ◌&&◌, ltb, leb, List, [], ◌∷◌, ◌++◌, length, get_or, drop, Some, None, Option, sym, refl, ap, ◌∙◌, subst, arith}
-use Rattle.std.proofs.lemmas.List.{drop_more, drop_all, length-drop}
-use Rattle.std.proofs.lemmas.Bool.Decides.{nat_tests}
+use Rattle.std.proofs.Common.{◌≡◌, ℕ, zero, suc, ◌+◌, ◌<◌, Bool, true, false, cond, ◌&&◌, ltb, leb, List, [], ◌∷◌, ◌++◌, length, drop, Some, None, Option, sym, refl, ap, ◌∙◌, subst, arith}
 use Rattle.patterns.specs.declared.node.Node.{Node}
 use Rattle.patterns.specs.declared.node.Node.TheVariants.{Nothing, Empty, Range, Sequence, Union, Intersection, Complement, Star}
 use Rattle.patterns.specs.Nodes.{node_bytes, node_sound}
@@ -82,42 +80,3 @@ node_read s at None e = λ n h. let same : ◌≡◌ {A = Option Node} (Some n) 
 node_read s at (Some n) e =
     let b : Begins (drop at s) (Some n) = subst (Begins (drop at s)) e (decode_begins (drop at s)) in
     record { stands = stands_from s at (node_bytes n) b.0 (node_long n) b.1; sounds = b.2 }
-
--- at a place within the list the byte there decides
-pub node_read_at : (s : List ℕ) (at k : ℕ) (r : Option Node) → at < length s → get_or s at 0 ≡ k → decode_kind k (drop (at + 1) s) ≡ r → NodeRead s at r
-node_read_at s at k r h e d = node_read s at r (ap decode (drop_more s at 0 h) ∙ ap (λ b. decode_kind b (drop (at + 1) s)) e ∙ d)
-
-pub node_read_past : (s : List ℕ) (at : ℕ) → length s ≤ at → NodeRead s at None
-node_read_past s at h = node_read s at None (ap decode (drop_all at s h))
-
--- a range has two bytes more
-range_short : (s : List ℕ) → length s < 2 → decode_range s ≡ None
-range_short [] h = refl
-range_short (a ∷ []) h = refl
-range_short (a ∷ b ∷ s) h = absurd (omega arith)
-
-range_at : (s : List ℕ) (at : ℕ) → at + 2 < length s
-    → decode_range (drop (at + 1) s) ≡ cond (ltb (get_or s (at + 2) 0) 256 && leb (get_or s (at + 1) 0) (get_or s (at + 2) 0)) (Some (Range (get_or s (at + 1) 0) (get_or s (at + 2) 0))) None
-range_at s at h =
-    let one : at + 1 < length s = omega arith in
-    let two : at + 1 + 1 < length s = omega arith in
-    let on : at + 1 + 1 ≡ at + 2 = omega arith in
-    ap decode_range (drop_more s (at + 1) 0 one)
-    ∙ ap (λ r. decode_range (get_or s (at + 1) 0 ∷ r)) (drop_more s (at + 1 + 1) 0 two)
-    ∙ ap (λ i. cond (ltb (get_or s i 0) 256 && leb (get_or s (at + 1) 0) (get_or s i 0)) (Some (Range (get_or s (at + 1) 0) (get_or s i 0))) None) on
-
-module _ (s : List ℕ) (at : ℕ) (there : at < length s) (kind : get_or s at 0 ≡ 2) where
-  pub node_read_short : length s < at + 3 → NodeRead s at None
-  node_read_short h = node_read_at s at 2 None there kind (range_short (drop (at + 1) s) (simp length-drop (omega arith)))
-
-  pub node_read_turned : at + 2 < length s → get_or s (at + 2) 0 < get_or s (at + 1) 0 → NodeRead s at None
-  node_read_turned h l = node_read_at s at 2 None there kind (range_at s at h ∙ turned (get_or s (at + 1) 0) (get_or s (at + 2) 0) l)
-    where
-      turned : (a b : ℕ) → b < a → cond (ltb b 256 && leb a b) (Some (Range a b)) None ≡ None
-      turned a b l = grind (arith, nat_tests)
-
-  pub node_read_range : at + 2 < length s → get_or s (at + 2) 0 < 256 → get_or s (at + 1) 0 ≤ get_or s (at + 2) 0 → NodeRead s at (Some (Range (get_or s (at + 1) 0) (get_or s (at + 2) 0)))
-  node_read_range h byte l = node_read_at s at 2 (Some (Range (get_or s (at + 1) 0) (get_or s (at + 2) 0))) there kind (range_at s at h ∙ straight (get_or s (at + 1) 0) (get_or s (at + 2) 0) byte l)
-    where
-      straight : (a b : ℕ) → b < 256 → a ≤ b → cond (ltb b 256 && leb a b) (Some (Range a b)) None ≡ Some (Range a b)
-      straight a b byte l = grind (arith, nat_tests)

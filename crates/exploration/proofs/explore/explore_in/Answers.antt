@@ -1,5 +1,4 @@
-use Rattle.std.proofs.Common.{◌≡◌, ◌*◌, drop, sym, refl, ◌∙◌, subst, arith}
-use Rattle.exploration.proofs.Buckets.{same_on}
+use Rattle.std.proofs.Common.{◌≡◌, sym, refl, arith}
 use Rattle.exploration.proofs.Settling.{on_as, on_begun, on_ended, none_fits}
 use Rattle.exploration.proofs.explore.explore_in.Goals as goal
 

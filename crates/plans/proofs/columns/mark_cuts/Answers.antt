@@ -1,4 +1,4 @@
-use Rattle.std.proofs.Common.{◌≡◌, ℕ, ◌+◌, length, sym, ◌∙◌, subst, arith}
+use Rattle.std.proofs.Common.{◌+◌, sym, ◌∙◌, subst, arith}
 use Rattle.plans.specs.Dividing.{Marked}
 use Rattle.plans.proofs.Dividing.{marked_past, marked_more}
 use Rattle.plans.proofs.columns.mark_cuts.Goals as goal

@@ -1,6 +1,6 @@
 use Rattle.std.proofs.Common.{◌≡◌, ℕ, List, set, sym, subst, arith, length-set}
 use Rattle.plans.specs.Dividing.{Divided}
-use Rattle.plans.proofs.Dividing.{divided_start, divided_on, divided_cut}
+use Rattle.plans.proofs.Dividing.{divided_on, divided_cut}
 use Rattle.plans.proofs.columns.number_bytes.Goals as goal
 use Rattle.plans.proofs.columns.number_bytes.Goals.{then-cuts-b-ne0, else-cuts-b-ne0}
 

@@ -1,5 +1,5 @@
 use Rattle.std.proofs.Common.{arith}
-use Rattle.plans.proofs.Measuring.{measured_none, measured_past}
+use Rattle.plans.proofs.Measuring.{measured_none}
 use Rattle.plans.proofs.extents.measure.Goals as goal
 
 pub loop-at-init : goal.loop-at-init
