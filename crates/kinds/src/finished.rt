@@ -62,7 +62,9 @@ impl Finished {
     }
 
     // How many rows there are.
-    pub fn rows(&self) -> usize {
+    pub fn rows(&self) -> usize
+        ensures { result ≡ self.now.rows }
+    {
         self.rows
     }
 

@@ -1,4 +1,6 @@
 // Small patterns over two letters, in prefix order: in bytes, so that they are written without what is tried.
+ghost use Rattle.std.specs.Prelude.{◌≡◌, ◌<◌, IfOk, vec_len};
+
 use std::alloc::{AllocError, Global};
 
 // Nothing, empty, the ranges from a to a and from b to b.
@@ -11,7 +13,9 @@ const OVER_ONE: [u8; 2] = [6, 7];
 const OVER_TWO: [u8; 3] = [3, 4, 5];
 
 // All patterns of so many nodes at most, by how many nodes they have, one first.
-pub fn by_nodes(heap: Global, most: usize) -> Result<Vec<Vec<Vec<u8>>>, AllocError> {
+pub fn by_nodes(heap: Global, most: usize) -> Result<Vec<Vec<Vec<u8>>>, AllocError>
+    ensures { IfOk result (λ all. 0 < most → vec_len all ≡ most) }
+{
     let mut all = vec![in heap; leaves(heap)?]?;
     for _nodes in 1..most {
         let larger = one_larger(heap, all.as_slice())?;
