@@ -21,7 +21,7 @@ module _ (m : ℕ) (key : ℕ → List ℕ) (k : ℕ) (heads links : List ℕ) (
 
 -- one index from step to step
 pub same_on : {x y z : Index} → Same x y → Same y z → Same x z
-same_on p q = record { size = q.size ∙ p.size; most = q.most ∙ p.most; keys = q.keys ∙ p.keys }
+same_on p q = record { size = q.size ∙ p.size; most = q.most ∙ p.most; keys = q.keys ∙ p.keys; heads = q.heads ∙ p.heads; links = q.links ∙ p.links }
 
 pub counts_up : {k k' i : ℕ} → (i < k → k' ≡ k) × (i ≡ k → k' ≡ k + 1) → i ≤ k → k ≤ k'
 counts_up {k} {k'} {i} p h = ⊎_elim (λ (o : i < k). omega (arith, p.0 o)) (λ (o : k ≤ i). omega (arith, p.1 (omega arith))) (cases_lt i k)

@@ -4,9 +4,10 @@ use Rattle.std.proofs.lemmas.List.{places}
 use Rattle.machines.specs.Words.{Word, Bytes}
 use Rattle.machines.specs.Machines.{run}
 use Rattle.machines.specs.Columns.{Columns, cell, shown, leads}
+use Rattle.machines.specs.Inside.{Inside}
 use Rattle.machines.specs.Minimal.{Gives}
-use Rattle.machines.specs.Systems.{reach}
-use Rattle.exploration.specs.Pairs.{pair_next, pair_shows}
+use Rattle.machines.specs.Systems.{reach, Lawful}
+use Rattle.exploration.specs.Pairs.{pair_next, pair_shows, PairKey}
 use Rattle.exploration.specs.Exploring.{Complete}
 use Rattle.exploration.proofs.Explored.{complete_gives}
 
@@ -21,7 +22,7 @@ cell_of : (t : List ℕ) (i c j : ℕ) → j < c → get_or (take c (drop (257 *
 cell_of t i c j h = grind (arith, places)
 
 -- a column is stepped as its least byte
-step_least : (l r : List ℕ) {c : ℕ} {column least : ℕ → ℕ} → Columns c column least → (k : List ℕ) (j : ℕ) → j < c → cell l (get_or k 0 0) j ∷ cell r (get_or k 1 0) j ∷ [] ≡ pair_next column l r k (least j)
+pub step_least : (l r : List ℕ) {c : ℕ} {column least : ℕ → ℕ} → Columns c column least → (k : List ℕ) (j : ℕ) → j < c → cell l (get_or k 0 0) j ∷ cell r (get_or k 1 0) j ∷ [] ≡ pair_next column l r k (least j)
 step_least l r columns k j h = ap (λ z. cell l (get_or k 0 0) z ∷ cell r (get_or k 1 0) z ∷ []) (sym (columns.back j h))
 
 -- through the cells of both rows
@@ -32,6 +33,18 @@ step_cells l r columns k out xs ys m n j e d p q h long =
     ∙ ap (λ z. z ∷ get_or ys j 0 ∷ []) (ap (λ z. get_or z j 0) e ∙ cell_of l (get_or k 0 0) m j (omega arith))
     ∙ ap (λ z. cell l (get_or k 0 0) j ∷ z ∷ []) (ap (λ z. get_or z j 0) d ∙ cell_of r (get_or k 1 0) n j (omega arith))
     ∙ step_least l r columns k j h
+
+pub pair_lawful : {c m n : ℕ} {column least : ℕ → ℕ} {l r : List ℕ} → Columns c column least → Inside c m l → Inside c n r → Lawful (0 ∷ 0 ∷ []) (pair_next column l r) (PairKey m n) 2 column least
+pair_lawful {column = column} {l = l} {r = r} columns a b = record {
+  starts = record { two = refl; left = a.some; right = b.some };
+  stays = λ k x g h. record {
+    two = refl;
+    left = a.cells (get_or k 0 0) g.left (column x) (columns.within x h);
+    right = b.cells (get_or k 1 0) g.right (column x) (columns.within x h);
+  };
+  wide = λ k g. g.two;
+  alike = λ k x g h. step_least l r columns k (column x) (columns.within x h);
+}
 
 module _ (column : ℕ → ℕ) (l r : List ℕ) where
   pub pair_reach : (w : Word) (i j : ℕ) → reach (pair_next column l r) (i ∷ j ∷ []) w ≡ run (leads column l) i w ∷ run (leads column r) j w ∷ []

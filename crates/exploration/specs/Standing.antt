@@ -19,6 +19,8 @@ pub record Same (s s' : Index) : Type 0 where
   pub size : s'.size ≡ s.size
   pub most : s'.most ≡ s.most
   pub keys : s'.keys.ghost_name ≡ s.keys.ghost_name
+  pub heads : s'.heads.ghost_name ≡ s.heads.ghost_name
+  pub links : s'.links.ghost_name ≡ s.links.ghost_name
 
 abbrev pub Counts : ℕ → ℕ → Option Class → Type 0
 Counts k k' None = k' ≡ k

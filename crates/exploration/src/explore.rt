@@ -59,7 +59,7 @@ pub fn explore_in<S: System>(
     requires scratch { index.old.size ≤ length scratch.old }
     requires table { 257 * index.old.most ≤ length table.old }
     ensures says { Says (S.System.next sys.now) (S.System.begin sys.now) (S.System.shows sys.now) (S.System.column sys.now) (S.System.count sys.now) index.old.size index.old.most index.new.keys.now table.new result }
-    ensures same { index.new.keys.ghost_name ≡ index.old.keys.ghost_name }
+    ensures same { Same index.old index.new }
     ensures rest { drop (257 * index.old.most) table.new ≡ drop (257 * index.old.most) table.old }
 {
     let scratch = &mut scratch[..sys.size()];

@@ -2,7 +2,7 @@
 // In `heads` and `links` a key's number is one more than its class, and 0 ends a chain: lent words hold no Option.
 ghost use Rattle.std.specs.Prelude.{◌≡◌, ℕ, ◌+◌, ◌-◌, ◌*◌, ◌^◌, ◌<◌, ◌≤◌, length};
 ghost use Rattle.exploration.specs.Keys.{key_at, Finds, Settled};
-ghost use Rattle.exploration.specs.Hashed.{hashed, Indexed};
+ghost use Rattle.exploration.specs.Hashed.{hashed, Indexed, Reindexed};
 ghost use Rattle.exploration.specs.Standing.{Stands, Same, Counts};
 
 use crate::keys;
@@ -86,7 +86,7 @@ impl<'k, 'h, 'l> Index<'k, 'h, 'l> {
         ensures stands { Stands result }
         ensures none { result.count ≡ 0 }
         ensures sizes { (result.size ≡ size) × (result.most ≡ most) }
-        ensures same { result.keys.ghost_name ≡ keys.entry.ghost_name }
+        ensures same { (result.keys.ghost_name ≡ keys.entry.ghost_name) × (result.heads.ghost_name ≡ heads.entry.ghost_name) × (result.links.ghost_name ≡ links.entry.ghost_name) }
     {
         heads.fill(0);
         Index {
@@ -158,4 +158,36 @@ impl<'k, 'h, 'l> Index<'k, 'h, 'l> {
         self.count = count + 1;
         Some(Class(count))
     }
+}
+
+// The class of `key` among the first `count` keys, behind which it is put if it is new; nothing if `most` keys are there already.
+// For a caller that lends the parts of an index one by one, and goes on with them.
+pub fn settle(
+    keys: &mut [u32],
+    size: usize,
+    count: usize,
+    most: usize,
+    key: &[u32],
+    heads: &mut [u32],
+    links: &mut [u32],
+) -> Option<Class>
+    requires count { count ≤ most }
+    requires most { most < 2 ^ 32 - 1 }
+    requires room { most * size ≤ length keys.old }
+    requires long { length key.now ≡ size }
+    requires buckets { length heads.old ≡ 4096 }
+    requires links { most ≤ length links.old }
+    requires indexed { Indexed 4096 (key_at keys.old size) count heads.old links.old }
+    ensures settled { Settled keys.old keys.new size count most key.now result }
+    ensures indexed { Reindexed 4096 (key_at keys.new size) count heads.new links.new result }
+{
+    let mut index = Index {
+        keys,
+        size,
+        most,
+        heads,
+        links,
+        count,
+    };
+    index.settle(key)
 }

@@ -7,7 +7,7 @@ returns-in_err-first g c =
     let put = c.in_err-first.ensures in
     rw c.from_residual.ensures (record {
       says = none_fits (g.S.System.next c.args.sys.now) (g.S.System.begin c.args.sys.now) c.columns-columns.ensures.columns (omega (arith, put.settled.0, c.requires.none));
-      same = put.same.keys;
+      same = put.same;
       rest = refl;
     })
 
@@ -29,6 +29,6 @@ returns g c =
     let inv = c.loop-row.invariant in
     record {
       says = on_ended c.columns-columns.ensures.columns c.size.ensures.lawful (on_as (sym c.columns-columns.ensures.is) (sym inv.same.size) (c.count-2.ensures) inv.on) (omega arith) (omega (arith, inv.stands.few, inv.same.most)) (omega (arith, c.requires.table, c.loop-row.auto.table));
-      same = inv.same.keys;
+      same = inv.same;
       rest = inv.rest;
     }

@@ -14,7 +14,7 @@ loop-c-init g c =
     let S = c.requires.stands in
     record {
       stands = S;
-      same = record { size = refl; most = refl; keys = refl };
+      same = record { size = refl; most = refl; keys = refl; heads = refl; links = refl };
       in_row = c.requires.row;
       long = length-set (take (257 * c.args.row + 257 - 257 * c.args.row) (drop (257 * c.args.row) c.args.table.now)) 0 c.show.result
           ∙ row_long c.args.row c.args.table.now (omega (arith, S.few));
