@@ -1,10 +1,9 @@
 -- Blocks that stand at the front of a longer list, and the areas of the work memory that they stand in. Assumes nothing.
 use Rattle.std.proofs.Common.{◌≡◌, ℕ, ◌*◌, ◌<◌, ◌≤◌, List, ◌++◌, length, take, sym, ap, ◌∙◌, subst, arith}
 use Rattle.std.proofs.lemmas.List.{places, take_at, drop_at}
-use Rattle.machines.specs.Systems.{Key}
 use Rattle.refinement.specs.Refining.{at, Refined}
 use Rattle.patterns.specs.Patterns.{Pattern}
-use Rattle.parts.specs.Steps.{raw_area, block_area, Distinguished, Finished}
+use Rattle.parts.specs.Steps.{raw_area, block_area, Finished}
 
 module _ {c k : ℕ} {t : List ℕ} {B D : ℕ → ℕ} (same : (i : ℕ) → i < k → D i ≡ B i) (R : Refined c k t B) where
   back : {i j : ℕ} → i < k → j < k → D i ≡ D j → B i ≡ B j
@@ -31,13 +30,11 @@ raw_at n raw rest e = take_at raw rest (257 * n) e
 block_at : (n : ℕ) (raw block rest : List ℕ) → length raw ≡ 257 * n → length block ≡ n → block_area n (raw ++ (block ++ rest)) ≡ block
 block_at n raw block rest e f = ap (take n) (drop_at raw (block ++ rest) (257 * n) e) ∙ take_at block rest n f
 
--- what was distinguished stands in the areas of the work memory
-pub in_areas : {next : Key → ℕ → Key} {s : Key} {shows : Key → ℕ} {column : ℕ → ℕ} {c n k : ℕ} (raw block rest : List ℕ) → length raw ≡ 257 * n → length block ≡ n
-    → Distinguished next s shows column c n k raw block
-    → Distinguished next s shows column c n k (raw_area n (raw ++ (block ++ rest))) (block_area n (raw ++ (block ++ rest)))
-in_areas {next} {s} {shows} {column} {c} {n} {k} raw block rest e f D =
-    subst (λ t. Distinguished next s shows column c n k t (block_area n (raw ++ (block ++ rest)))) (sym (raw_at n raw (block ++ rest) e))
-    (subst (Distinguished next s shows column c n k raw) (sym (block_at n raw block rest e f)) D)
+-- what holds of a table and its blocks holds of the areas of the work memory that they stand in
+pub in_areas : {n : ℕ} (P : List ℕ → List ℕ → Type 0) (raw block rest : List ℕ) → length raw ≡ 257 * n → length block ≡ n → P raw block
+    → P (raw_area n (raw ++ (block ++ rest))) (block_area n (raw ++ (block ++ rest)))
+in_areas {n} P raw block rest e f h =
+    subst (λ t. P t (block_area n (raw ++ (block ++ rest)))) (sym (raw_at n raw (block ++ rest) e)) (subst (P raw) (sym (block_at n raw block rest e f)) h)
 
 -- what holds of a table's words, columns and rows holds of what they are
 pub of_table : {s t : List ℕ} {a c l k : ℕ} (P : List ℕ → ℕ → ℕ → Type 0) → (s ≡ t) × (a ≡ c) × (l ≡ k) → P s a l → P t c k

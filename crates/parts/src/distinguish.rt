@@ -12,7 +12,28 @@ use machines::raw::RawTable;
 use refinement::quotient::quotient;
 use refinement::refine::refine;
 
-// Explores a system, and parts its rows into blocks of rows that do alike. In `work` the rows' table comes first, then their blocks.
+// Explores a system, and parts its rows into blocks of rows that do alike.
+pub fn distinguish_in<S: System>(
+    sys: &S,
+    most: usize,
+    raw: &mut [u32],
+    block: &mut [u32],
+    work: &mut [u32],
+) -> Option<usize>
+    requires ready { S.System.ready sys.now }
+    requires most { Few most }
+    requires raw { 257 * most ≤ length raw.old }
+    requires block { most ≤ length block.old }
+    requires work { most * S.System.width sys.now + (S.System.width sys.now + (4096 + most)) ≤ length work.old }
+    ensures { Distinguishes (S.System.next sys.now) (S.System.begin sys.now) (S.System.shows sys.now) (S.System.column sys.now) (S.System.count sys.now) most raw.new block.new result }
+{
+    let rows = explore(sys, most, raw, work)?;
+    let table = RawTable::new(raw, sys.columns(), rows);
+    refine(table, &mut block[0..rows], &mut work[0..rows]);
+    Some(rows)
+}
+
+// The same in one slice of work: the rows' table comes first, then their blocks.
 pub fn distinguish<S: System>(sys: &S, most: usize, work: &mut [u32]) -> Option<usize>
     requires ready { S.System.ready sys.now }
     requires most { Few most }
@@ -21,13 +42,30 @@ pub fn distinguish<S: System>(sys: &S, most: usize, work: &mut [u32]) -> Option<
 {
     let (raw, rest) = work.split_at_mut(257 * most);
     let (block, rest) = rest.split_at_mut(most);
-    let rows = explore(sys, most, raw, rest)?;
-    let table = RawTable::new(raw, sys.columns(), rows);
-    refine(table, &mut block[0..rows], &mut rest[0..rows]);
-    Some(rows)
+    distinguish_in(sys, most, raw, block, rest)
 }
 
-// Writes the table of the blocks that were found in `work`, a row for each.
+// Writes the table of the blocks, a row for each; in `names` the blocks are numbered.
+pub fn join_blocks_in(
+    columns: usize,
+    rows: usize,
+    raw: &[u32],
+    block: &[u32],
+    names: &mut [u32],
+    tables: &mut [u32],
+) -> usize
+    requires few { Few rows }
+    requires inside { Inside columns rows raw.now }
+    requires block { rows ≤ length block.now }
+    requires refined { Refined columns rows raw.now (at block.now) }
+    requires names { rows ≤ length names.old }
+    requires tables { 257 * rows ≤ length tables.old }
+    ensures { Joined columns rows result raw.now tables.new }
+{
+    quotient(RawTable::new(raw, columns, rows), block, names, tables)
+}
+
+// The same of the blocks that were found in one slice of work.
 pub fn join_blocks(
     columns: usize,
     rows: usize,
@@ -45,5 +83,5 @@ pub fn join_blocks(
 {
     let (raw, rest) = work.split_at_mut(257 * most);
     let (block, names) = rest.split_at_mut(most);
-    quotient(RawTable::new(raw, columns, rows), block, names, tables)
+    join_blocks_in(columns, rows, raw, block, names, tables)
 }

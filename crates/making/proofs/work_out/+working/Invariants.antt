@@ -5,5 +5,5 @@ use Rattle.making.proofs.work_out.+working.Given as goal
 abbrev pub decreases-two_parts : goal.decreases-two_parts
 decreases-two_parts l = 2 * (length l.plan.list.now - l.next) + 1
 
-abbrev pub decreases-work_out : goal.decreases-work_out
-decreases-work_out l = 2 * (length l.plan.list.now - l.at)
+abbrev pub decreases-work_out_in : goal.decreases-work_out_in
+decreases-work_out_in l = 2 * (length l.plan.list.now - l.at)

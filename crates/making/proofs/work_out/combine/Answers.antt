@@ -6,10 +6,10 @@ use Rattle.making.proofs.work_out.combine.Goals as goal
 
 pub returns-in-Followed : goal.returns-in-Followed
 returns-in-Followed c =
-    subst (λ (m : Binary). Combines (over m) (λ (b : ℕ). get_or c.args.columns.column.now b 0) c.args.columns.count c.args.first c.args.second c.args.most c.args.stack.now c.sequence.new.tables c.sequence.result)
-    (sym c.in-Followed.is) c.sequence.ensures
+    subst (λ (m : Binary). Combines (over m) (λ (b : ℕ). get_or c.args.columns.column.now b 0) c.args.columns.count c.args.first c.args.second c.args.most c.args.stack.now c.sequence_in.new.tables c.sequence_in.result)
+    (sym c.in-Followed.is) c.sequence_in.ensures
 
 pub returns-in-Connected : goal.returns-in-Connected
 returns-in-Connected c =
-    subst (λ (m : Binary). Combines (over m) (λ (b : ℕ). get_or c.args.columns.column.now b 0) c.args.columns.count c.args.first c.args.second c.args.most c.args.stack.now c.connect.new.tables c.connect.result)
-    (sym c.in-Connected.is) c.connect.ensures
+    subst (λ (m : Binary). Combines (over m) (λ (b : ℕ). get_or c.args.columns.column.now b 0) c.args.columns.count c.args.first c.args.second c.args.most c.args.stack.now c.connect_in.new.tables c.connect_in.result)
+    (sym c.in-Connected.is) c.connect_in.ensures

@@ -1,22 +1,11 @@
-use Rattle.std.proofs.Common.{ℕ, ◌*◌, ◌≤◌, length, take, subst, arith, length-take}
-use Rattle.exploration.specs.Keys.{key_at}
-use Rattle.refinement.specs.Refining.{at, Refined}
-use Rattle.parts.proofs.Distinguishing.{refined_front, in_areas, of_table}
+use Rattle.std.proofs.Common.{arith}
+use Rattle.parts.specs.Steps.{Distinguishes}
+use Rattle.parts.proofs.Distinguishing.{in_areas}
 use Rattle.parts.proofs.distinguish.distinguish.Goals as goal
 
 pub returns : goal.returns
 returns g c =
-    let E = c.in_ok-rows.ensures.says in
-    let w = g.S.System.width c.args.sys.now in
-    let long : c.in_ok-rows.rows ≤ length c.refine.new.block = omega (arith, E.few, simp length-take at c.refine.auto.block) in
-    let refined : Refined c.columns.result c.in_ok-rows.rows c.explore.new.table (at c.refine.new.block) =
-    of_table (λ t a k. Refined a k t (at c.refine.new.block)) c.new-table.ensures c.refine.ensures in
-    in_areas c.explore.new.table _ _ (omega arith) (omega arith) (record {
-      few = E.few;
-      inside = E.inside;
-      key = key_at (take (c.args.most * w) c.explore.new.work) w;
-      explored = E.explored;
-      shows_keys = E.shows_keys;
-      refined = refined_front c.refine.new.block _ long
-          (subst (λ (z : ℕ). Refined z c.in_ok-rows.rows c.explore.new.table (at c.refine.new.block)) c.columns.ensures.is refined);
-    })
+    let S = g.S.System in
+    let s = c.args.sys.now in
+    in_areas (λ t block. Distinguishes (S.next s) (S.begin s) (S.shows s) (S.column s) (S.count s) c.args.most t block c.distinguish_in.result)
+    c.distinguish_in.new.raw c.distinguish_in.new.block c.distinguish_in.new.work (omega arith) (omega arith) c.distinguish_in.ensures
