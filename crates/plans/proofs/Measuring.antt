@@ -1,6 +1,6 @@
 -- Where patterns end and how many tables they need, from what is known of their parts. Assumes nothing.
-use Rattle.std.proofs.Common.{◌≡◌, ℕ, ◌+◌, ◌<◌, ◌≤◌, List, [], ◌∷◌, Some, None, Option, length, sym, refl, ap, ◌∙◌, subst, ⊎_elim, arith}
-use Rattle.std.proofs.lemmas.List.{length-drop}
+use Rattle.std.proofs.Common.{◌≡◌, ℕ, ◌+◌, ◌<◌, ◌≤◌, List, [], ◌∷◌, Some, None, Option, unwrap_or, length, take, sym, refl, ap, ◌∙◌, subst, ⊎_elim, arith}
+use Rattle.std.proofs.lemmas.List.{length-drop, get_or-take}
 use Rattle.std.proofs.lemmas.Bool.{cases_eq}
 use Rattle.patterns.specs.declared.node.Node.{Node}
 use Rattle.patterns.specs.Patterns.{Pattern, nothing, empty, range, seq, union, inter, compl, star}
@@ -44,6 +44,11 @@ pub extent_read : {s : List ℕ} {from at : ℕ} (x : Extents) (r : Option Exten
     → Recorded x at r → ExtentAt s at r
 extent_read x (Some e) l m M near r = extent_written x e M near r
 extent_read x None l m M near r = extent_past x l m r
+
+-- where none stands, any extent is the pattern's
+pub extent_or : {s : List ℕ} {at : ℕ} (r : Option Extent) (d e : Extent) → ExtentAt s at r → e ≡ unwrap_or r d → ExtentOf s at e.end e.needed
+extent_or {s} {at} (Some x) d e E same = subst (λ (y : Extent). ExtentOf s at y.end y.needed) (sym same) E
+extent_or None d e fails same = record { stops = λ p end h. absurd (fails p end h); needs = λ p end h. absurd (fails p end h) }
 
 module _ {s : List ℕ} {at : ℕ} {m : Node} {next : ℕ} (r : NodeTo s at m next) where
   -- what is known of any parts that stand behind the node is known of the pattern
@@ -116,6 +121,13 @@ pub measured_none : (s ends tables : List ℕ) (at : ℕ) → length s ≤ at �
 measured_none s ends tables at l = record {
   stops = λ k h p stop g. absurd (omega (arith, pattern_later g));
   needs = λ k h p stop g. absurd (omega (arith, pattern_later g));
+}
+
+-- nothing is read behind the list
+pub measured_front : {s ends tables : List ℕ} {from : ℕ} → Measured s ends tables from → Measured s (take (length s) ends) (take (length s) tables) from
+measured_front {s = s} {ends = ends} {tables = tables} M = record {
+  stops = λ k l p stop h. get_or-take (length s) ends k 0 (omega (arith, pattern_later h, h.stands.within)) ∙ M.stops k l p stop h;
+  needs = λ k l p stop h. get_or-take (length s) tables k 0 (omega (arith, pattern_later h, h.stands.within)) ∙ M.needs k l p stop h;
 }
 
 -- a place at which no pattern stands is left as it was

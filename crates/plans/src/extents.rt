@@ -11,6 +11,9 @@ pub struct Extent {
     pub needed: u32,
 }
 
+// Of a place behind the list, where no pattern stands.
+const NOTHING: Extent = Extent { end: 0, needed: 0 };
+
 // The extents that were written for a list's places: where patterns end, and how many tables they need.
 #[derive(Clone, Copy)]
 pub struct Extents<'a> {
@@ -61,7 +64,7 @@ fn extent_at(list: &[u8], extents: Extents<'_>, at: usize) -> Option<Extent>
         1 => extents.get(next),
         _ => {
             let first = extents.get(next)?;
-            let second = extents.get(first.end as usize)?;
+            let second = extents.get(first.end as usize).unwrap_or(NOTHING);
             Some(Extent {
                 end: second.end,
                 needed: of_both(first.needed, second.needed),
@@ -78,9 +81,16 @@ pub fn measure(list: &[u8], ends: &mut [u32], tables: &mut [u32])
     requires tables { length list.now ≤ length tables.old }
     ensures { Measured list.now ends.new tables.new 0 }
 {
+    // So that what is left where no pattern stands comes from the list alone.
+    ends[..list.len()].fill(0);
+    tables[..list.len()].fill(0);
     // By place, from the last: an extent is worked out from those of the places behind it.
     for at in (0..list.len()).rev() {
-        if let Some(here) = extent_at(list, Extents { ends, tables }, at) {
+        let extents = Extents {
+            ends: &ends[..list.len()],
+            tables: &tables[..list.len()],
+        };
+        if let Some(here) = extent_at(list, extents, at) {
             ends[at] = here.end;
             tables[at] = here.needed;
         }
