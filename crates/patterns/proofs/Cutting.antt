@@ -120,6 +120,13 @@ module _ (p : Pattern) (w : Word) where
   rest_enough : (d k : ℕ) → 0 < k → length w ≤ suc d → many (matches p) d (drop k w) ≡ matches (star p) (drop k w)
   rest_enough d k pos l = many_enough (matches p) d (drop k w) (simp length-drop (omega arith))
 
+  pub star_empty : length w ≡ 0 → true ≡ matches (star p) w
+  star_empty e = go w e
+    where
+      go : (w : Word) → length w ≡ 0 → true ≡ matches (star p) w
+      go [] e = refl
+      go (x ∷ w) e = absurd (omega arith)
+
   as_fuel : (d k : ℕ) → length w ≡ suc d → 0 < k → Here (matches p) (many (matches p) d) w k ≡ Part k
   as_fuel d k e pos = ap (λ b. matches p (take k w) && b) (rest_enough d k pos (omega arith))
 

@@ -1,12 +1,12 @@
 -- Which patterns end after a text, decided by its last parts and collected as bits. Assumes nothing.
-use Rattle.std.proofs.Common.{◌≡◌, ℕ, zero, suc, ◌+◌, ◌-◌, ◌*◌, ◌%◌, ◌^◌, ◌<◌, ◌≤◌, Bool, true, false, leb, List, [], ◌∷◌, ◌++◌, Some, None, length, get_or, take, drop, set, sym, refl, ap, ◌∙◌, subst, mul_assoc, add-mul, pow-suc, add-one, arith}
+use Rattle.std.proofs.Common.{◌≡◌, ℕ, zero, suc, ◌+◌, ◌-◌, ◌*◌, ◌%◌, ◌^◌, ◌<◌, ◌≤◌, Bool, true, false, leb, List, [], ◌∷◌, ◌++◌, Some, None, length, get_or, take, drop, set, sym, refl, ap, ◌∙◌, subst, ⊎_elim, mul_assoc, add-mul, pow-suc, add-one, arith}
 use mathlib.Core.Option.{some}
 use lib.Bits.{bit_or, or_shifted_r}
 use Rattle.std.proofs.lemmas.Nat.{one_shl}
 use Rattle.std.specs.Bool.{MatchBool}
 use Rattle.std.specs.Iterator.{Yields}
 use Rattle.std.proofs.lemmas.List.{take_at, drop_at, take_all, length-drop, length_push, take_rest, take_more, take_more_set, append_assoc, append-nil, drop_all, drop_more}
-use Rattle.std.proofs.lemmas.Bool.{and_from, and_right, le-leb}
+use Rattle.std.proofs.lemmas.Bool.{and_from, and_right, le-leb, cases_lt}
 use Rattle.machines.specs.Words.{Word, Bytes}
 use Rattle.machines.specs.Classes.{nth}
 use Rattle.patterns.specs.Patterns.{Pattern, range, star, matches}
@@ -263,6 +263,10 @@ passing_nth {s = s} xs i t u at n o e a y step long =
 pub passing_all : {s : List ℕ} {at passed : ℕ} → Passing s at passed → length s ≤ at → (ps : List Pattern) → ListOf s ps → length ps ≡ passed
 passing_all {s = s} {passed = passed} c l ps o =
     ap length (one_list s ps (c.front ++ c.later) o c.whole) ∙ ap (λ qs. length (c.front ++ qs)) (parts_end c.there l) ∙ ap length (append-nil c.front) ∙ c.long
+
+-- there are more before the list's number of them
+pub passing_there : {s : List ℕ} {at passed : ℕ} {ps : List Pattern} → Passing s at passed → ListOf s ps → passed < length ps → at < length s
+passing_there {s = s} {at = at} {ps = ps} c o few = ⊎_elim (λ l. l) (λ l. absurd (omega (arith, passing_all c l ps o))) (cases_lt at (length s))
 
 pub passing_end : {s : List ℕ} (xs : List ℕ) (i t u : Patterns) → i.list.now ≡ s → i.at ≡ 0 → Yields PatternPassed i xs t → PatternPassed t None u → (ps : List Pattern) → ListOf s ps → length ps ≡ length xs
 passing_end {s = s} xs i t u e a y step ps o =

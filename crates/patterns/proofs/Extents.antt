@@ -235,6 +235,13 @@ further s at ps front h qs o = ⊎_elim
 pub list_long : (s : List ℕ) → 4096 < length s → ListRead s None
 list_long s h = record { says = λ ps o. omega (arith, o.short); only = one_list }
 
+-- there is more behind as many patterns as a list has at most
+pub list_full : {s : List ℕ} {at count : ℕ} → Reading s at count → count ≡ 32 → at < length s → ListRead s None
+list_full {s = s} {at = at} r full h = record {
+  says = λ qs o. let f = further s at r.ps r.front h qs o in omega (arith, ap length f.is, length-append r.ps (f.next ∷ f.later), r.many, full, o.few);
+  only = one_list;
+}
+
 pub list_many : {s : List ℕ} {at count : ℕ} → Reading s at count → 32 < count → ListRead s None
 list_many {s = s} {at = at} r h = record {
   says = λ qs o.

@@ -108,8 +108,15 @@ fn bits_after(list: &[u8], text: &[u8]) -> u32
 pub fn matches(list: &[u8], index: usize, word: &[u8]) -> Option<bool>
     ensures { MatchedPost list.now index word.now result }
 {
-    read_list(list)?;
-    let at = Patterns::new(list).nth(index)?;
+    let count = read_list(list)?;
+    if index >= count {
+        return None;
+    }
+    // A loop: `nth` of the list's patterns would read the one that it gives, too.
+    let mut at = 0;
+    for _before in 0..index {
+        at = pattern_behind(list, at);
+    }
     Some(matches_at(list, at, word))
 }
 

@@ -81,11 +81,16 @@ pub fn read_list(list: &[u8]) -> Option<usize>
         return None;
     }
     let mut at = 0;
-    for count in 0..=MOST_PATTERNS {
+    for count in 0..MOST_PATTERNS {
         if at == list.len() {
             return Some(count);
         }
         at = pattern_end(list, at)?;
     }
-    None
+    // Not read: what stands behind so many patterns.
+    if at == list.len() {
+        Some(MOST_PATTERNS)
+    } else {
+        None
+    }
 }
