@@ -1,8 +1,8 @@
 -- Names and patterns, line after line. Assumes nothing.
-use Rattle.std.proofs.Common.{◌≡◌, ℕ, ◌<◌, true, List, [], ◌∷◌, ◌++◌, length, sym, refl, ap, ◌∙◌, subst, arith}
+use Rattle.std.proofs.Common.{rules, ◌≡◌, ℕ, ◌<◌, true, List, [], ◌∷◌, ◌++◌, length, sym, refl, ap, ◌∙◌, subst, arith}
 use Rattle.std.specs.List.{All}
 use Rattle.std.proofs.lemmas.List.{append-nil, length_push}
-use Rattle.std.proofs.lemmas.List.Elements.{All-push}
+use Rattle.std.proofs.lemmas.List.Elements.{All-nil, All-push}
 use Rattle.std.proofs.lemmas.List.Quantifiers.{all_pairs_push}
 use Rattle.std.proofs.lemmas.Bool.{and_from}
 use Rattle.patterns.specs.Lists.{write, write_list, sound}
@@ -13,6 +13,16 @@ use Rattle.notation.specs.Writing.{Added}
 use Rattle.notation.specs.Names.{Unlike}
 use Rattle.notation.specs.declared.scan.Reader.{Reader}
 use Rattle.notation.specs.Promises.{Notated, Line}
+
+-- no line yet, and one more
+pub notated_none : (xs : List ℕ) → Notated xs [] []
+notated_none xs = record {
+  patterns = [];
+  list = record { written = refl; sounds = refl; few = omega arith; short = omega arith };
+  named = refl;
+  within = All-nil (Within xs);
+  distinct = search rules;
+}
 
 pub notated_more : {xs bytes bytes' : List ℕ} {names : List Span} (n : Span) → Notated xs bytes names → Added bytes bytes' → length names < 32 → Within xs n → All (Unlike xs n) names
     → Notated xs bytes' (names ++ (n ∷ []))

@@ -25,7 +25,8 @@ fn is_set(bits: u32, index: usize) -> bool
 pub fn divider(input: &[u8]) -> Option<usize>
     ensures { RuleFound input.now result }
 {
-    (0..input.len()).find(|at| is_rule(input, *at))
+    let at = (0..input.len()).find(|at| is_rule(input, *at))?;
+    Some(at)
 }
 
 // Whether a line of three dashes begins here.
