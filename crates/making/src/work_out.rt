@@ -105,15 +105,10 @@ pub fn work_out_in(
     match node {
         Node::Nothing => leaf_in(Leaf::Nothing, plan.columns, most, stack, raw, block, work),
         Node::Empty => leaf_in(Leaf::Empty, plan.columns, most, stack, raw, block, work),
-        Node::Range(low, high) => leaf_in(
-            Leaf::Range(low, high),
-            plan.columns,
-            most,
-            stack,
-            raw,
-            block,
-            work,
-        ),
+        Node::Range(low, high) => {
+            let range = Leaf::Range(low, high);
+            leaf_in(range, plan.columns, most, stack, raw, block, work)
+        }
         Node::Complement => {
             let rows = work_out_in(plan, next, most, stack, raw, block, work)?;
             complement(rows, stack);
@@ -121,37 +116,18 @@ pub fn work_out_in(
         }
         Node::Star => {
             let rows = work_out_in(plan, next, most, stack, raw, block, work)?;
-            repetition_in(
-                Part { at: 0, rows },
-                plan.columns,
-                most,
-                stack,
-                raw,
-                block,
-                work,
-            )
+            let part = Part { at: 0, rows };
+            repetition_in(part, plan.columns, most, stack, raw, block, work)
         }
         Node::Sequence => two_parts(plan, Binary::Followed, next, most, stack, raw, block, work),
-        Node::Union => two_parts(
-            plan,
-            Binary::Connected(Or),
-            next,
-            most,
-            stack,
-            raw,
-            block,
-            work,
-        ),
-        Node::Intersection => two_parts(
-            plan,
-            Binary::Connected(And),
-            next,
-            most,
-            stack,
-            raw,
-            block,
-            work,
-        ),
+        Node::Union => {
+            let either = Binary::Connected(Or);
+            two_parts(plan, either, next, most, stack, raw, block, work)
+        }
+        Node::Intersection => {
+            let both = Binary::Connected(And);
+            two_parts(plan, both, next, most, stack, raw, block, work)
+        }
     }
 }
 
